@@ -1,0 +1,73 @@
+-- An input that ends where its header section begins.
+use Rattle.std.proofs.Common.{◌≡◌, ◌<◌, arith, ℕ, List, [], ◌∷◌, ◌++◌, length, refl, sym, ap, subst, ◌∙◌}
+use Rattle.std.proofs.lemmas.List.{map-append}
+use Rattle.bh_spec.specs.declared.Part.{Part}
+use Rattle.bh_spec.specs.declared.Part.TheVariants as parts
+use Rattle.bh_spec.specs.declared.Form.{Form}
+use Rattle.bh_spec.specs.declared.Form.TheVariants.{Known}
+use Rattle.bh_spec.specs.declared.Kind.TheVariants.{Request}
+use Rattle.bh_spec.specs.declared.Omitted.{Omitted}
+use Rattle.bh_spec.specs.declared.Omitted.TheVariants.{Both}
+use Rattle.bh_spec.specs.Messages.{Message, kind_of}
+use Rattle.bh_spec.specs.Texts.{Text, mark, bytes_of}
+use Rattle.bh_spec.specs.Sections.{IsSection}
+use Rattle.bh_spec.specs.Tails.{IsTail}
+use Rattle.bh_spec.specs.Spelling.{IsStartText, framing}
+use Rattle.bh_spec.specs.Viable.{SpellsBytes, IsViable, NextPart}
+use Rattle.bh_spec.specs.Cases.{defaults, get, get_bytes, HeaderSectionMissing}
+use Rattle.bh_spec.proofs.Meeting.{meets_front}
+use Rattle.bh_spec.proofs.Numbers.{number_meets}
+use Rattle.bh_spec.proofs.Sections.{section_nonempty, then_nonempty}
+use Rattle.bh_spec.proofs.Whole.{framing_is, start_agrees}
+use Rattle.bh_spec.proofs.Cases.{valid, no_headers, one, request_text, request_spelled, get_text, get_spelled}
+
+abbrev cut : List ℕ
+cut = 0x00 ∷ get_bytes
+
+viable : IsViable defaults cut
+viable = record {
+  message = get [];
+  omitted = Both;
+  padding = 0;
+  text = get_text;
+  after = 0x00 ∷ [];
+  spelled = get_spelled;
+  begins = refl;
+}
+
+next : NextPart defaults cut parts.SectionLength
+next = record {
+  message = get [];
+  omitted = Both;
+  padding = 0;
+  before = mark parts.Framing (0x00 ∷ []) ++ request_text;
+  byte = 0x00;
+  after = [];
+  spelled = get_spelled;
+  begins = refl;
+}
+
+split : (t x y : Text) → t ≡ x ++ y → bytes_of t ≡ bytes_of x ++ bytes_of y
+split t x y e = ap bytes_of e ∙ map-append (λ (b : Part × ℕ). b.1) x y
+
+no_bytes : (t : Text) → [] ≡ bytes_of t → 0 < length t → ⊥
+no_bytes [] e h = omega arith
+no_bytes (a ∷ t) e h = cc
+
+unfinished : (m : Message) (o : Omitted) (z : ℕ) → SpellsBytes defaults m o z cut → ⊥
+unfinished m o z h =
+    let u = h.1.text in
+    let k = framing (kind_of m.start) h.1.form in
+    let first = mark parts.Framing (0x00 ∷ []) in
+    let a = meets_front (0 ≡ k) first u.0 get_bytes (bytes_of u.1) (number_meets parts.Framing 0 k first u.0 (one parts.Framing 0 (omega arith)) u.2) (sym h.2 ∙ split h.0 u.0 u.1 u.4) in
+    let same = framing_is Request (kind_of m.start) Known h.1.form a.0 in
+    let s = u.3 in
+    let start = subst (λ (f : Form). IsStartText defaults f m.start s.0) (sym same.1) s.2 in
+    let b = meets_front ((get []).start ≡ m.start) request_text s.0 [] (bytes_of s.1)
+    (start_agrees defaults defaults Known (get []).start m.start same.0 (valid [] no_headers).start h.1.valid.start request_text s.0 request_spelled start)
+    (a.2 ∙ split u.1 s.0 s.1 s.4) in
+    no_bytes s.1 b.2
+    (then_nonempty (IsSection defaults h.1.form m.fields) (IsTail defaults h.1.form m.content m.trailers o z) s.1 (section_nonempty defaults h.1.form m.fields) s.3)
+
+pub header_section_missing : HeaderSectionMissing
+header_section_missing = record { long = refl; seen = omega arith; viable = viable; unfinished = unfinished; next = next }

@@ -1,0 +1,43 @@
+-- The laws of the format.
+use Rattle.std.specs.Prelude.{ℕ, ◌≡◌, List}
+use Rattle.bh_spec.specs.declared.Part.{Part}
+use Rattle.bh_spec.specs.declared.Omitted.{Omitted}
+use Rattle.bh_spec.specs.declared.Omitted.TheVariants.{Nothing}
+use Rattle.bh_spec.specs.Bounds.{Bounds, no_bounds}
+use Rattle.bh_spec.specs.Messages.{Message, IsValid}
+use Rattle.bh_spec.specs.Texts.{Text}
+use Rattle.bh_spec.specs.Spelling.{Spells}
+use Rattle.bh_spec.specs.Viable.{SpellsBytes, IsViable, NextPart}
+use Rattle.bh_spec.specs.Canonical.{canon, known, Fits, IsWritable}
+
+-- Bytes have one reading, whatever the limits.
+abbrev pub OneReading : Type 0
+OneReading = (K L : Bounds) (m n : Message) (o p : Omitted) (y z : ℕ) (bytes : List ℕ)
+    → SpellsBytes K m o y bytes → SpellsBytes L n p z bytes → (m ≡ n) × (o ≡ p) × (y ≡ z)
+
+-- All texts that begin with some bytes and are longer have one part there, whatever the limits.
+abbrev pub OneNext : Type 0
+OneNext = (K L : Bounds) (bytes : List ℕ) (p q : Part) → NextPart K bytes p → NextPart L bytes q → p ≡ q
+
+-- Every viable prefix has a next part.
+abbrev pub SomeNext : Type 0
+SomeNext = (L : Bounds) (bytes : List ℕ) → IsViable L bytes → (part : Part) × NextPart L bytes part
+
+-- What fits the limits has both spellings within them; what has some spelling within them fits.
+abbrev pub CanonIsSpelled : Type 0
+CanonIsSpelled = (L : Bounds) (m : Message) → IsValid m → IsWritable m → Fits L m → SpellsBytes L m Nothing 0 (canon m)
+
+-- So has it the known-length spelling.
+abbrev pub KnownIsSpelled : Type 0
+KnownIsSpelled = (L : Bounds) (m : Message) → IsValid m → IsWritable m → Fits L m → SpellsBytes L m Nothing 0 (known m)
+
+abbrev pub FitsWhereSpelled : Type 0
+FitsWhereSpelled = (L : Bounds) (m : Message) (o : Omitted) (z : ℕ) (t : Text) → Spells L m o z t → Fits L m
+
+-- What is viable within limits is viable without.
+abbrev pub WithoutLimits : Type 0
+WithoutLimits = (L : Bounds) (m : Message) (o : Omitted) (z : ℕ) (t : Text) → Spells L m o z t → Spells no_bounds m o z t
+
+-- Two messages have one canonical text only if they are one.
+abbrev pub CanonOnce : Type 0
+CanonOnce = (m n : Message) → IsValid m → IsWritable m → IsValid n → IsWritable n → canon m ≡ canon n → m ≡ n

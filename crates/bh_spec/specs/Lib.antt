@@ -1,0 +1,16 @@
+pub mod Integers
+pub mod Intervals
+pub mod Bounds
+pub mod Bytes
+pub mod Messages
+pub mod Texts
+pub mod Sections
+pub mod Tails
+pub mod Spelling
+pub mod Viable
+pub mod Answers
+pub mod Canonical
+pub mod Reports
+pub mod Laws
+pub mod Alive
+pub mod Cases
