@@ -1,5 +1,6 @@
 pub mod Integers
 pub mod Intervals
+pub mod Parts
 pub mod Bounds
 pub mod Bytes
 pub mod Messages

@@ -5,6 +5,8 @@
 //! speak of. Each function is empty: its contract is a law about the definitions, or a worked case.
 #![tactic(auto)]
 
+ghost use Rattle.std.specs.Prelude.{◌≡◌};
+ghost use Rattle.bh_spec.specs.Parts.{number_of};
 ghost use Rattle.bh_spec.specs.Laws.{OneReading, OneNext, SomeNext, CanonIsSpelled, KnownIsSpelled, FitsWhereSpelled, WithoutLimits, CanonOnce};
 ghost use Rattle.bh_spec.specs.Alive.{AliveByInterval, FramingAlive, SectionLengthAlive, ValueLengthAlive, LineStep, NameAlive, PseudoAlive};
 ghost use Rattle.bh_spec.specs.Cases.{TailLeftOut, PaddingCounted, UpperCaseName, FramingInFourBytes, TrailersLeftOut, FramingTooGreat, HeaderSectionMissing, IntegerVectors, IntegerBoundaries};
@@ -22,7 +24,7 @@ pub enum Width {
 /// that ends a section is a `NameLength`, and the one that ends chunks a `ChunkLength`.
 #[derive(Clone, Copy, Debug, PartialEq, Eq)]
 pub enum Part {
-    Framing,
+    Framing = 1,
     MethodLength,
     Method,
     SchemeLength,
@@ -41,6 +43,15 @@ pub enum Part {
     ChunkLength,
     Content,
     Padding,
+}
+
+impl Part {
+    /// The number of the part, from 1 for `Framing` to 19 for `Padding`.
+    pub fn number(&self) -> u8
+        ensures { result ≡ number_of self.now }
+    {
+        *self as u8
+    }
 }
 
 /// The numbers x where `low <= x <= high`. With `low > high` it holds none.
