@@ -16,3 +16,7 @@ pub mod Steps
 pub mod Limits
 pub mod Once
 pub mod Names
+pub mod Reading
+pub mod Strings
+pub mod Lines
+pub mod Outline
