@@ -1,5 +1,6 @@
 -- Lines and known-length sections at the front of some bytes.
 use Rattle.std.proofs.Common.{◌≡◌, ◌<◌, ◌≤◌, ◌+◌, ◌⊎◌, ℕ, List, [], ◌∷◌, ◌++◌, length, All, refl, sym, ap, subst, ◌∙◌, append_assoc, append-nil, arith, inl, inr}
+use Rattle.std.specs.Char.{to_ascii_lowercase}
 use Rattle.std.proofs.lemmas.List.{length-append, length-map}
 use Rattle.std.proofs.lemmas.List.Elements.{All-nil, All-cons, All-head, All-tail, All-append, All-same}
 use Rattle.bh_spec.specs.declared.Part.{Part}
@@ -8,13 +9,13 @@ use Rattle.bh_spec.specs.declared.Form.TheVariants.{Known}
 use Rattle.bh_spec.specs.Bounds.{Bounds, IsWithin}
 use Rattle.bh_spec.specs.Bytes.{lower}
 use Rattle.bh_spec.specs.Messages.{Field}
-use Rattle.bh_spec.specs.Texts.{Text, bytes_of, ◌then◌, AreEach, IsNumber, IsString}
+use Rattle.bh_spec.specs.Texts.{Text, bytes_of, ◌then◌, AreEach, IsNumber, IsRun, IsString}
 use Rattle.bh_spec.specs.Sections.{IsLine, IsLinesWithin, IsSection}
-use Rattle.bh_spec.specs.Fronts.{StartsWith, StartsWithNumber, HasNoNumber, StartsWithString, HasNoString, IsNamed, StartsWithLine, HasNoLine, HasLines, StartsWithSection}
+use Rattle.bh_spec.specs.Fronts.{StartsWith, StartsWithNumber, HasNoNumber, StartsWithString, HasNoString, IsNamed, StartsWithLine, HasNoLine, HasLines, StartsWithSection, HasNoSection}
 use Rattle.bh_spec.proofs.Agreement.{Agree, agree_string}
 use Rattle.bh_spec.proofs.Numbers.{number_meets}
-use Rattle.bh_spec.proofs.Sections.{line_agrees, line_nonempty, section_agrees}
-use Rattle.bh_spec.proofs.Reading.{starts_then, starts_apart, read_on, one_front, starts_whole, whole_bytes, bytes_of-append}
+use Rattle.bh_spec.proofs.Sections.{line_agrees, line_nonempty, number_nonempty, section_agrees}
+use Rattle.bh_spec.proofs.Reading.{starts_then, starts_apart, read_on, one_front, starts_whole, whole_bytes, bytes_of-append, run_starts}
 
 abbrev spelled_name : List ℕ → Text → Type 0
 spelled_name name t = IsString parts.NameLength parts.Name name t
@@ -190,9 +191,6 @@ section_found L bytes lines rest fields number h =
         (record { text = n.text; spelled = subst (λ (k : ℕ). IsNumber parts.SectionLength k n.text) long n.spelled; joined = n.joined }) same in
     record { named = h.named; spelled = record { text = both.text; spelled = (text, h.spelled.spelled, both.spelled); joined = both.joined } }
 
-abbrev pub HasNoSection : Bounds → List ℕ → Type 0
-HasNoSection L bytes = (fields : List Field) (rest : List ℕ) → StartsWithSection L bytes fields rest → ⊥
-
 section_apart : (L : Bounds) (fields : List Field) (bytes rest : List ℕ) (h : StartsWith (IsSection L Known fields) bytes rest)
     → StartsWith (IsNumber parts.SectionLength (length h.spelled.0) then (λ (t : Text). t ≡ h.spelled.0)) bytes rest
 section_apart L fields bytes rest h = record { text = h.text; spelled = h.spelled.2; joined = h.joined }
@@ -251,3 +249,33 @@ pub one_section : (K L : Bounds) (bytes middle rest : List ℕ) (fields others :
     → (fields ≡ others) × (middle ≡ rest)
 one_section K L bytes middle rest fields others h k =
     one_front (fields ≡ others) (IsSection K Known fields) (IsSection L Known others) (section_agrees K L Known fields others h.named k.named) bytes middle rest h.spelled k.spelled
+
+-- ---- the room of a line
+
+string_long : (long part : Part) (x : List ℕ) (bytes rest : List ℕ) → StartsWith (IsString long part x) bytes rest → length x + 1 + length rest ≤ length bytes
+string_long long part x bytes rest h =
+    let a = starts_apart (IsNumber long (length x)) (IsRun part x) bytes rest h in
+    let number = number_nonempty long (length x) a.first.text a.first.spelled in
+    let run = run_starts part x a.middle rest a.then_ in
+    omega (
+      arith,
+      ap length a.first.joined,
+      length-append (bytes_of a.first.text) a.middle,
+      length-map a.first.text (λ (b : Part × ℕ). b.1),
+      ap length run,
+      length-append x rest,
+    )
+
+-- a line takes the bytes of its name and its value, and 2 more at least
+pub line_room : (bytes : List ℕ) (most : ℕ) (name value rest : List ℕ) → StartsWithLine bytes most name value rest → length name + length value + 2 + length rest ≤ length bytes
+line_room bytes most name value rest h =
+    let spelled = h.spelled.spelled.0 in
+    let both : StartsWith (spelled_name spelled then spelled_value value) bytes rest = record { text = h.spelled.text; spelled = h.spelled.spelled.2; joined = h.spelled.joined } in
+    let a = starts_apart (spelled_name spelled) (spelled_value value) bytes rest both in
+    omega (
+      arith,
+      string_long parts.NameLength parts.Name spelled bytes a.middle a.first,
+      string_long parts.ValueLength parts.Value value a.middle rest a.then_,
+      lower_length spelled (lower name) h.spelled.spelled.1,
+      length-map name to_ascii_lowercase,
+    )

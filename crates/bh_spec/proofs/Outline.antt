@@ -14,11 +14,11 @@ use Rattle.bh_spec.specs.Texts.{Text, mark, bytes_of, IsNumber, IsRun, ◌then�
 use Rattle.bh_spec.specs.Sections.{IsSection}
 use Rattle.bh_spec.specs.Tails.{IsBody, IsTail}
 use Rattle.bh_spec.specs.Spelling.{IsRequest}
-use Rattle.bh_spec.specs.Fronts.{StartsWith, StartsWithString, HasNoString, IsNamed, StartsWithSection}
+use Rattle.bh_spec.specs.Fronts.{StartsWith, StartsWithString, HasNoString, IsNamed, StartsWithSection, HasNoSection, spelled_control, HasNoRequest, HasTail, HasNoTail}
 use Rattle.bh_spec.proofs.Agreement.{Agree, agree_string}
 use Rattle.bh_spec.proofs.Sections.{section_agrees, section_nonempty, body_nonempty, then_nonempty}
 use Rattle.bh_spec.proofs.Reading.{starts_then, starts_apart, read_on, one_front, run_starts, starts_shorter}
-use Rattle.bh_spec.proofs.Lines.{HasNoSection, one_section}
+use Rattle.bh_spec.proofs.Lines.{one_section}
 use Rattle.bh_spec.proofs.Written.{unmark}
 
 abbrev IsMethod : List ℕ → Text → Type 0
@@ -35,10 +35,6 @@ IsPath x t = IsString parts.PathLength parts.Path x t
 
 -- ---- control data
 
--- the control data whose strings are these, the scheme as it is spelled
-abbrev pub control_of : List ℕ → List ℕ → List ℕ → List ℕ → Control
-control_of method scheme authority path = record { method = method; scheme = lower scheme; authority = authority; path = path }
-
 -- four strings of at most so many bytes
 pub record FourStrings (bytes : List ℕ) (most : ℕ) (method scheme authority path rest : List ℕ) : Type 0 where
   pub after_method : List ℕ
@@ -50,7 +46,7 @@ pub record FourStrings (bytes : List ℕ) (most : ℕ) (method scheme authority 
   pub fourth : StartsWithString after_authority most path rest
 
 pub request_found : (L : Bounds) (most : ℕ) → ((n : ℕ) → n ≤ most → IsWithin L.part n) → (bytes method scheme authority path rest : List ℕ)
-    → FourStrings bytes most method scheme authority path rest → StartsWith (IsRequest L (control_of method scheme authority path)) bytes rest
+    → FourStrings bytes most method scheme authority path rest → StartsWith (IsRequest L (spelled_control method scheme authority path)) bytes rest
 request_found L most fits bytes method scheme authority path rest h =
     let all = starts_then (IsMethod method) (IsSchemeText scheme then IsAuthority authority then IsPath path) bytes h.after_method rest (h.first.spelled parts.MethodLength parts.Method)
         (starts_then (IsSchemeText scheme) (IsAuthority authority then IsPath path) h.after_method h.after_scheme rest (h.second.spelled parts.SchemeLength parts.Scheme)
@@ -69,9 +65,6 @@ request_found L most fits bytes method scheme authority path rest h =
       };
       joined = all.joined;
     }
-
-abbrev pub HasNoRequest : Bounds → List ℕ → Type 0
-HasNoRequest L bytes = (c : Control) (rest : List ℕ) → StartsWith (IsRequest L c) bytes rest → ⊥
 
 -- what a request's control data is made of
 strings_apart : (L : Bounds) (most : ℕ) → ((n : ℕ) → IsWithin L.part n → n ≤ most) → (c : Control) (bytes rest : List ℕ) (h : StartsWith (IsRequest L c) bytes rest)
@@ -127,14 +120,6 @@ no_path L most fits bytes method after_method scheme after_scheme authority midd
     none parts.PathLength parts.Path c.path rest s.4 last.1
 
 -- ---- content, trailer section and padding
-
--- what a known-length tail is, with named trailers
-pub record HasTail (L : Bounds) (bytes content : List ℕ) (trailers : List Field) (omitted : Omitted) (padding : ℕ) : Type 0 where
-  pub named : All IsNamed trailers
-  pub spelled : StartsWith (IsTail L Known content trailers omitted padding) bytes []
-
-abbrev pub HasNoTail : Bounds → List ℕ → Type 0
-HasNoTail L bytes = (content : List ℕ) (trailers : List Field) (omitted : Omitted) (padding : ℕ) → HasTail L bytes content trailers omitted padding → ⊥
 
 pub nothing_left : (L : Bounds) → HasTail L [] [] [] Both 0
 nothing_left L = record { named = All-nil IsNamed; spelled = record { text = []; spelled = (refl, refl, refl, refl); joined = refl } }

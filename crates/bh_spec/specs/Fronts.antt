@@ -2,11 +2,14 @@
 use Rattle.std.specs.Prelude.{ℕ, ◌≡◌, ◌<◌, ◌≤◌, List, [], ◌++◌, length, All}
 use Rattle.bh_spec.specs.declared.Part.{Part}
 use Rattle.bh_spec.specs.declared.Form.TheVariants.{Known}
+use Rattle.bh_spec.specs.declared.Omitted.{Omitted}
 use Rattle.bh_spec.specs.Bounds.{Bounds}
 use Rattle.bh_spec.specs.Bytes.{lower}
-use Rattle.bh_spec.specs.Messages.{Field}
+use Rattle.bh_spec.specs.Messages.{Field, Control}
 use Rattle.bh_spec.specs.Texts.{Text, bytes_of, IsNumber, IsString}
 use Rattle.bh_spec.specs.Sections.{IsLine, IsLinesWithin, IsSection}
+use Rattle.bh_spec.specs.Tails.{IsTail}
+use Rattle.bh_spec.specs.Spelling.{IsRequest}
 
 -- The bytes are those of a text of R, and then the rest.
 pub record StartsWith (R : Text → Type 0) (bytes rest : List ℕ) : Type 0 where
@@ -52,3 +55,22 @@ pub record HasLines (L : Bounds) (bytes : List ℕ) (fields : List Field) : Type
 pub record StartsWithSection (L : Bounds) (bytes : List ℕ) (fields : List Field) (rest : List ℕ) : Type 0 where
   pub named : All IsNamed fields
   pub spelled : StartsWith (IsSection L Known fields) bytes rest
+
+abbrev pub HasNoSection : Bounds → List ℕ → Type 0
+HasNoSection L bytes = (fields : List Field) (rest : List ℕ) → StartsWithSection L bytes fields rest → ⊥
+
+-- the control data whose strings are these, the scheme as it is spelled
+abbrev pub spelled_control : List ℕ → List ℕ → List ℕ → List ℕ → Control
+spelled_control method scheme authority path = record { method = method; scheme = lower scheme; authority = authority; path = path }
+
+-- a request's control data
+abbrev pub HasNoRequest : Bounds → List ℕ → Type 0
+HasNoRequest L bytes = (c : Control) (rest : List ℕ) → StartsWith (IsRequest L c) bytes rest → ⊥
+
+-- the bytes are known-length content, a trailer section of named fields and padding, as far as they aren't left out
+pub record HasTail (L : Bounds) (bytes content : List ℕ) (trailers : List Field) (omitted : Omitted) (padding : ℕ) : Type 0 where
+  pub named : All IsNamed trailers
+  pub spelled : StartsWith (IsTail L Known content trailers omitted padding) bytes []
+
+abbrev pub HasNoTail : Bounds → List ℕ → Type 0
+HasNoTail L bytes = (content : List ℕ) (trailers : List Field) (omitted : Omitted) (padding : ℕ) → HasTail L bytes content trailers omitted padding → ⊥

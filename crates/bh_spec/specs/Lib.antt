@@ -5,10 +5,10 @@ pub mod Bounds
 pub mod Bytes
 pub mod Messages
 pub mod Texts
-pub mod Fronts
 pub mod Sections
 pub mod Tails
 pub mod Spelling
+pub mod Fronts
 pub mod Viable
 pub mod Answers
 pub mod Canonical
