@@ -1,5 +1,5 @@
 -- The worked cases hold.
-use Rattle.std.proofs.Common.{◌<◌, ◌≤◌, arith, ℕ, List, [], ◌∷◌, ◌++◌, length, IsTrue, codes, refl, inl}
+use Rattle.std.proofs.Common.{◌<◌, ◌≤◌, ◌^◌, Option, Some, arith, ℕ, List, [], ◌∷◌, ◌++◌, length, IsTrue, codes, refl, inl}
 use Rattle.std.proofs.lemmas.List.Elements.{All-nil, All-cons, All-from_recursion}
 use Rattle.bh_spec.specs.declared.Part.{Part}
 use Rattle.bh_spec.specs.declared.Part.TheVariants as parts
@@ -7,13 +7,14 @@ use Rattle.bh_spec.specs.declared.Form.TheVariants.{Known, Indeterminate}
 use Rattle.bh_spec.specs.declared.Omitted.TheVariants.{Both}
 use Rattle.bh_spec.specs.declared.Width.TheVariants.{One, Two, Four}
 use Rattle.bh_spec.specs.Integers.{vi}
+use Rattle.bh_spec.specs.Bounds.{Bounds}
 use Rattle.bh_spec.specs.Bytes.{is_token, is_scheme, is_authority, is_path}
 use Rattle.bh_spec.specs.Messages.{Field, IsToken, IsScheme, IsControl, IsRegularField, IsPseudoField, AreHeaders, IsInterim, IsValid}
 use Rattle.bh_spec.specs.Texts.{Text, mark, IsNumber, IsString}
 use Rattle.bh_spec.specs.Sections.{IsLinesWithin, IsSection}
 use Rattle.bh_spec.specs.Tails.{IsBody}
 use Rattle.bh_spec.specs.Spelling.{IsRequest, Spells}
-use Rattle.bh_spec.specs.Cases.{defaults, get, field_a, TailLeftOut, PaddingCounted, UpperCaseName, FramingInFourBytes, TrailersLeftOut, IntegerVectors, IntegerBoundaries}
+use Rattle.bh_spec.specs.Cases.{defaults, get, field_a, field_b, TailLeftOut, PaddingCounted, UpperCaseName, FramingInFourBytes, TrailersLeftOut, InterimResponse, PseudoField, InputTooLong, IntegerVectors, IntegerBoundaries}
 
 -- ---- a message is valid
 
@@ -65,8 +66,12 @@ request_text = (mark parts.MethodLength (3 ∷ []) ++ mark parts.Method (codes "
     ++ ((mark parts.SchemeLength (5 ∷ []) ++ mark parts.Scheme (codes "https"))
     ++ ((mark parts.AuthorityLength (0 ∷ []) ++ []) ++ (mark parts.PathLength (1 ∷ []) ++ mark parts.Path (codes "/"))))
 
-pub request_spelled : IsRequest defaults (record { method = codes "GET"; scheme = codes "https"; authority = []; path = codes "/" }) request_text
-request_spelled = record {
+-- the default limits, but for that of the input, by which no text is judged
+abbrev with_input : Option ℕ → Bounds
+with_input limit = record { part = Some 8192; section = Some 65536; interims = Some 16; input = limit }
+
+request_under : (limit : Option ℕ) → IsRequest (with_input limit) (record { method = codes "GET"; scheme = codes "https"; authority = []; path = codes "/" }) request_text
+request_under limit = record {
   scheme = codes "https";
   same_scheme = refl;
   text = (
@@ -88,11 +93,20 @@ request_spelled = record {
   path_within = omega arith;
 }
 
+pub request_spelled : IsRequest defaults (record { method = codes "GET"; scheme = codes "https"; authority = []; path = codes "/" }) request_text
+request_spelled = request_under (Some (2 ^ 24))
+
+no_lines_under : (limit : Option ℕ) → IsLinesWithin (with_input limit) [] []
+no_lines_under limit = record { lines = refl; total = omega arith; names = All-nil _; values = All-nil _ }
+
 no_lines : IsLinesWithin defaults [] []
-no_lines = record { lines = refl; total = omega arith; names = All-nil _; values = All-nil _ }
+no_lines = no_lines_under (Some (2 ^ 24))
+
+empty_under : (limit : Option ℕ) → IsSection (with_input limit) Known [] (mark parts.SectionLength (0 ∷ []))
+empty_under limit = ([], no_lines_under limit, (_, [], one parts.SectionLength 0 (omega arith), refl, refl))
 
 pub empty_section : IsSection defaults Known [] (mark parts.SectionLength (0 ∷ []))
-empty_section = ([], no_lines, (_, [], one parts.SectionLength 0 (omega arith), refl, refl))
+empty_section = empty_under (Some (2 ^ 24))
 
 abbrev a_text : Text
 a_text = (mark parts.NameLength (1 ∷ []) ++ mark parts.Name (0x41 ∷ [])) ++ (mark parts.ValueLength (0 ∷ []) ++ [])
@@ -111,12 +125,15 @@ a_section = (a_text, a_lines, (_, a_text, one parts.SectionLength 3 (omega arith
 abbrev pub get_text : Text
 get_text = mark parts.Framing (0 ∷ []) ++ (request_text ++ (mark parts.SectionLength (0 ∷ []) ++ []))
 
-pub get_spelled : Spells defaults (get []) Both 0 get_text
-get_spelled = record {
+under_input : (limit : Option ℕ) → Spells (with_input limit) (get []) Both 0 get_text
+under_input limit = record {
   valid = valid [] no_headers;
   form = Known;
-  text = (_, _, one parts.Framing 0 (omega arith), (request_text, _, request_spelled, (_, [], empty_section, (refl, refl, refl, refl), refl), refl), refl);
+  text = (_, _, one parts.Framing 0 (omega arith), (request_text, _, request_under limit, (_, [], empty_under limit, (refl, refl, refl, refl), refl), refl), refl);
 }
+
+pub get_spelled : Spells defaults (get []) Both 0 get_text
+get_spelled = under_input (Some (2 ^ 24))
 
 pub tail_left_out : TailLeftOut
 tail_left_out = ((omega arith, (get_text, get_spelled, refl)), refl)
@@ -193,6 +210,119 @@ framing_in_four_bytes = (
   ),
   refl,
 )
+
+abbrev hinted_text : Text
+hinted_text = mark parts.Status (0x40 ∷ 0x67 ∷ []) ++ mark parts.SectionLength (0 ∷ [])
+
+pub interim_response : InterimResponse
+interim_response = (
+  (
+    omega arith,
+    (
+      _,
+      record {
+        valid = record {
+          start = record {
+            each = All-cons IsInterim _ [] (record { low = omega arith; high = omega arith; fields = no_headers }) (All-nil IsInterim);
+            low = omega arith;
+            high = omega arith;
+          };
+          fields = no_headers;
+          content = All-nil _;
+          trailers = All-nil IsRegularField;
+        };
+        form = Known;
+        text = (
+          _,
+          _,
+          one parts.Framing 1 (omega arith),
+          (
+            hinted_text ++ mark parts.Status (0x40 ∷ 0xc8 ∷ []),
+            _,
+            (
+              omega arith,
+              (
+                hinted_text,
+                _,
+                (hinted_text, [], (_, _, record { width = Two; fits = omega arith; spelled = refl }, empty_section, refl), refl, refl),
+                record { width = Two; fits = omega arith; spelled = refl },
+                refl,
+              ),
+            ),
+            (_, [], empty_section, (refl, refl, refl, refl), refl),
+            refl,
+          ),
+          refl,
+        );
+      },
+      refl,
+    ),
+  ),
+  refl,
+)
+
+b_valid : IsPseudoField field_b
+b_valid = record {
+  name = record {
+    colon = (codes "b", refl, record { nonempty = omega arith; each = All-from_recursion (λ byte. IsTrue (is_token byte)) (codes "b") (refl, tt) });
+    method = λ e. cc;
+    scheme = λ e. cc;
+    authority = λ e. cc;
+    path = λ e. cc;
+    status = λ e. cc;
+  };
+  lower_case = refl;
+  value = record { each = All-nil _; first = refl; last = refl };
+}
+
+b_header : AreHeaders (field_b ∷ [])
+b_header = (field_b ∷ [], [], refl, All-cons IsPseudoField field_b [] b_valid (All-nil IsPseudoField), All-nil IsRegularField)
+
+abbrev b_text : Text
+b_text = (mark parts.NameLength (2 ∷ []) ++ mark parts.Name (0x3a ∷ 0x62 ∷ [])) ++ (mark parts.ValueLength (0 ∷ []) ++ [])
+
+b_lines : IsLinesWithin defaults (field_b ∷ []) (b_text ++ [])
+b_lines = record {
+  lines = (b_text, [], (0x3a ∷ 0x62 ∷ [], refl, (_, _, a_string parts.NameLength parts.Name (0x3a ∷ 0x62 ∷ []) (omega arith), a_string parts.ValueLength parts.Value [] (omega arith), refl)), refl, refl);
+  total = omega arith;
+  names = All-from_recursion (λ (f : Field). length f.name ≤ 8192) (field_b ∷ []) (omega arith, tt);
+  values = All-from_recursion (λ (f : Field). length f.value ≤ 8192) (field_b ∷ []) (omega arith, tt);
+}
+
+b_section : IsSection defaults Known (field_b ∷ []) (mark parts.SectionLength (4 ∷ []) ++ b_text)
+b_section = (b_text, b_lines, (_, b_text, one parts.SectionLength 4 (omega arith), refl, refl))
+
+pub pseudo_field : PseudoField
+pseudo_field = (
+  (
+    omega arith,
+    (
+      _,
+      record {
+        valid = valid (field_b ∷ []) b_header;
+        form = Known;
+        text = (_, _, one parts.Framing 0 (omega arith), (request_text, _, request_spelled, (_, [], b_section, (refl, refl, refl, refl), refl), refl), refl);
+      },
+      refl,
+    ),
+  ),
+  refl,
+)
+
+pub input_too_long : InputTooLong
+input_too_long = record {
+  limit = refl;
+  more = omega arith;
+  viable = record {
+    message = get [];
+    omitted = Both;
+    padding = 0;
+    text = get_text;
+    after = [];
+    spelled = under_input (Some 15);
+    begins = refl;
+  };
+}
 
 -- ---- chunked content
 

@@ -12,10 +12,10 @@ use Rattle.bh_spec.specs.Messages.{Field}
 use Rattle.bh_spec.specs.Texts.{Text, bytes_of, ◌then◌, AreEach, IsNumber, IsRun, IsString}
 use Rattle.bh_spec.specs.Sections.{IsLine, IsLinesWithin, IsSection}
 use Rattle.bh_spec.specs.Fronts.{StartsWith, StartsWithNumber, HasNoNumber, StartsWithString, HasNoString, IsNamed, StartsWithLine, HasNoLine, HasLines, StartsWithSection, HasNoSection}
-use Rattle.bh_spec.proofs.Agreement.{Agree, agree_string}
+use Rattle.bh_spec.proofs.Agreement.{agree_string}
 use Rattle.bh_spec.proofs.Numbers.{number_meets}
 use Rattle.bh_spec.proofs.Sections.{line_agrees, line_nonempty, number_nonempty, section_agrees}
-use Rattle.bh_spec.proofs.Reading.{starts_then, starts_apart, read_on, one_front, starts_whole, whole_bytes, bytes_of-append, run_starts}
+use Rattle.bh_spec.proofs.Reading.{starts_then, starts_apart, read_on, one_front, whole_bytes, bytes_of-append, run_starts}
 
 abbrev spelled_name : List ℕ → Text → Type 0
 spelled_name name t = IsString parts.NameLength parts.Name name t
@@ -188,7 +188,7 @@ section_found L bytes lines rest fields number h =
     let n = number parts.SectionLength in
     let same : StartsWith (λ (t : Text). t ≡ text) (lines ++ rest) rest = record { text = text; spelled = refl; joined = ap (λ (x : List ℕ). x ++ rest) e } in
     let both = starts_then (IsNumber parts.SectionLength (length text)) (λ (t : Text). t ≡ text) bytes (lines ++ rest) rest
-        (record { text = n.text; spelled = subst (λ (k : ℕ). IsNumber parts.SectionLength k n.text) long n.spelled; joined = n.joined }) same in
+    (record { text = n.text; spelled = subst (λ (k : ℕ). IsNumber parts.SectionLength k n.text) long n.spelled; joined = n.joined }) same in
     record { named = h.named; spelled = record { text = both.text; spelled = (text, h.spelled.spelled, both.spelled); joined = both.joined } }
 
 section_apart : (L : Bounds) (fields : List Field) (bytes rest : List ℕ) (h : StartsWith (IsSection L Known fields) bytes rest)
@@ -212,7 +212,7 @@ behind_length : (L : Bounds) (bytes middle : List ℕ) (n : ℕ) → StartsWithN
 behind_length L bytes middle n number fields rest h =
     let text = h.spelled.spelled.0 in
     let on = read_on (n ≡ length text) (IsNumber parts.SectionLength n) (IsNumber parts.SectionLength (length text)) (λ (t : Text). t ≡ text)
-        (number_meets parts.SectionLength n (length text)) bytes middle rest (number parts.SectionLength) (section_apart L fields bytes rest h.spelled) in
+    (number_meets parts.SectionLength n (length text)) bytes middle rest (number parts.SectionLength) (section_apart L fields bytes rest h.spelled) in
     record { text = text; long = on.0; lines = h.spelled.spelled.1; joined = ap (λ (t : Text). bytes_of t ++ rest) (sym on.1.spelled) ∙ on.1.joined }
 
 -- the length is too great for the limit or for the bytes

@@ -1,5 +1,5 @@
 -- Control data, content and padding at the front of some bytes, and whole known-length requests.
-use Rattle.std.proofs.Common.{◌≡◌, ◌<◌, ◌≤◌, ◌+◌, ◌⊎◌, ℕ, zero, suc, List, [], ◌∷◌, ◌++◌, length, All, replicate, refl, sym, ap, ap₂, subst, ◌∙◌, append-nil, arith, inl, inr}
+use Rattle.std.proofs.Common.{◌≡◌, ◌<◌, ◌≤◌, ◌⊎◌, ℕ, List, [], ◌++◌, length, replicate, refl, sym, ap, subst, ◌∙◌, append-nil, arith, inl, inr}
 use Rattle.std.proofs.lemmas.List.{length-append, length-map}
 use Rattle.std.proofs.lemmas.List.Elements.{All-nil}
 use Rattle.bh_spec.specs.declared.Part.{Part}
@@ -8,15 +8,13 @@ use Rattle.bh_spec.specs.declared.Form.TheVariants.{Known}
 use Rattle.bh_spec.specs.declared.Omitted.{Omitted}
 use Rattle.bh_spec.specs.declared.Omitted.TheVariants.{Nothing, Trailers, Both}
 use Rattle.bh_spec.specs.Bounds.{Bounds, IsWithin}
-use Rattle.bh_spec.specs.Bytes.{lower}
 use Rattle.bh_spec.specs.Messages.{Field, Control}
 use Rattle.bh_spec.specs.Texts.{Text, mark, bytes_of, IsNumber, IsRun, ◌then◌, IsString}
 use Rattle.bh_spec.specs.Sections.{IsSection}
-use Rattle.bh_spec.specs.Tails.{IsBody, IsTail}
 use Rattle.bh_spec.specs.Spelling.{IsRequest}
 use Rattle.bh_spec.specs.Fronts.{StartsWith, StartsWithString, HasNoString, IsNamed, StartsWithSection, HasNoSection, spelled_control, HasNoRequest, HasTail, HasNoTail}
-use Rattle.bh_spec.proofs.Agreement.{Agree, agree_string}
-use Rattle.bh_spec.proofs.Sections.{section_agrees, section_nonempty, body_nonempty, then_nonempty}
+use Rattle.bh_spec.proofs.Agreement.{agree_string}
+use Rattle.bh_spec.proofs.Sections.{section_nonempty}
 use Rattle.bh_spec.proofs.Reading.{starts_then, starts_apart, read_on, one_front, run_starts, starts_shorter}
 use Rattle.bh_spec.proofs.Lines.{one_section}
 use Rattle.bh_spec.proofs.Written.{unmark}
@@ -49,9 +47,9 @@ pub request_found : (L : Bounds) (most : ℕ) → ((n : ℕ) → n ≤ most → 
     → FourStrings bytes most method scheme authority path rest → StartsWith (IsRequest L (spelled_control method scheme authority path)) bytes rest
 request_found L most fits bytes method scheme authority path rest h =
     let all = starts_then (IsMethod method) (IsSchemeText scheme then IsAuthority authority then IsPath path) bytes h.after_method rest (h.first.spelled parts.MethodLength parts.Method)
-        (starts_then (IsSchemeText scheme) (IsAuthority authority then IsPath path) h.after_method h.after_scheme rest (h.second.spelled parts.SchemeLength parts.Scheme)
-        (starts_then (IsAuthority authority) (IsPath path) h.after_scheme h.after_authority rest (h.third.spelled parts.AuthorityLength parts.Authority)
-        (h.fourth.spelled parts.PathLength parts.Path))) in
+    (starts_then (IsSchemeText scheme) (IsAuthority authority then IsPath path) h.after_method h.after_scheme rest (h.second.spelled parts.SchemeLength parts.Scheme)
+    (starts_then (IsAuthority authority) (IsPath path) h.after_scheme h.after_authority rest (h.third.spelled parts.AuthorityLength parts.Authority)
+    (h.fourth.spelled parts.PathLength parts.Path))) in
     record {
       text = all.text;
       spelled = record {
@@ -92,7 +90,7 @@ pub no_scheme : (L : Bounds) (most : ℕ) → ((n : ℕ) → IsWithin L.part n �
 no_scheme L most fits bytes method middle m none c rest h =
     let s = strings_apart L most fits c bytes rest h in
     let on = read_on (method ≡ c.method) (IsMethod method) (IsMethod c.method) (IsSchemeText h.spelled.scheme then IsAuthority c.authority then IsPath c.path)
-        (agree_string parts.MethodLength parts.Method method c.method) bytes middle rest (m.spelled parts.MethodLength parts.Method) s.0 in
+    (agree_string parts.MethodLength parts.Method method c.method) bytes middle rest (m.spelled parts.MethodLength parts.Method) s.0 in
     let a = starts_apart (IsSchemeText h.spelled.scheme) (IsAuthority c.authority then IsPath c.path) middle rest on.1 in
     none parts.SchemeLength parts.Scheme h.spelled.scheme a.middle s.2 a.first
 
@@ -101,9 +99,9 @@ pub no_authority : (L : Bounds) (most : ℕ) → ((n : ℕ) → IsWithin L.part 
 no_authority L most fits bytes method after_method scheme middle m k none c rest h =
     let s = strings_apart L most fits c bytes rest h in
     let on = read_on (method ≡ c.method) (IsMethod method) (IsMethod c.method) (IsSchemeText h.spelled.scheme then IsAuthority c.authority then IsPath c.path)
-        (agree_string parts.MethodLength parts.Method method c.method) bytes after_method rest (m.spelled parts.MethodLength parts.Method) s.0 in
+    (agree_string parts.MethodLength parts.Method method c.method) bytes after_method rest (m.spelled parts.MethodLength parts.Method) s.0 in
     let then_ = read_on (scheme ≡ h.spelled.scheme) (IsSchemeText scheme) (IsSchemeText h.spelled.scheme) (IsAuthority c.authority then IsPath c.path)
-        (agree_string parts.SchemeLength parts.Scheme scheme h.spelled.scheme) after_method middle rest (k.spelled parts.SchemeLength parts.Scheme) on.1 in
+    (agree_string parts.SchemeLength parts.Scheme scheme h.spelled.scheme) after_method middle rest (k.spelled parts.SchemeLength parts.Scheme) on.1 in
     let a = starts_apart (IsAuthority c.authority) (IsPath c.path) middle rest then_.1 in
     none parts.AuthorityLength parts.Authority c.authority a.middle s.3 a.first
 
@@ -112,11 +110,11 @@ pub no_path : (L : Bounds) (most : ℕ) → ((n : ℕ) → IsWithin L.part n →
 no_path L most fits bytes method after_method scheme after_scheme authority middle m k u none c rest h =
     let s = strings_apart L most fits c bytes rest h in
     let on = read_on (method ≡ c.method) (IsMethod method) (IsMethod c.method) (IsSchemeText h.spelled.scheme then IsAuthority c.authority then IsPath c.path)
-        (agree_string parts.MethodLength parts.Method method c.method) bytes after_method rest (m.spelled parts.MethodLength parts.Method) s.0 in
+    (agree_string parts.MethodLength parts.Method method c.method) bytes after_method rest (m.spelled parts.MethodLength parts.Method) s.0 in
     let then_ = read_on (scheme ≡ h.spelled.scheme) (IsSchemeText scheme) (IsSchemeText h.spelled.scheme) (IsAuthority c.authority then IsPath c.path)
-        (agree_string parts.SchemeLength parts.Scheme scheme h.spelled.scheme) after_method after_scheme rest (k.spelled parts.SchemeLength parts.Scheme) on.1 in
+    (agree_string parts.SchemeLength parts.Scheme scheme h.spelled.scheme) after_method after_scheme rest (k.spelled parts.SchemeLength parts.Scheme) on.1 in
     let last = read_on (authority ≡ c.authority) (IsAuthority authority) (IsAuthority c.authority) (IsPath c.path)
-        (agree_string parts.AuthorityLength parts.Authority authority c.authority) after_scheme middle rest (u.spelled parts.AuthorityLength parts.Authority) then_.1 in
+    (agree_string parts.AuthorityLength parts.Authority authority c.authority) after_scheme middle rest (u.spelled parts.AuthorityLength parts.Authority) then_.1 in
     none parts.PathLength parts.Path c.path rest s.4 last.1
 
 -- ---- content, trailer section and padding
@@ -184,12 +182,12 @@ pub behind_content : (L : Bounds) (bytes content middle : List ℕ) (most : ℕ)
     → (content' : List ℕ) (trailers : List Field) (omitted : Omitted) (padding : ℕ) → HasTail L bytes content' trailers omitted padding → BehindContent L middle content content' trailers omitted padding
 behind_content L bytes content middle most some c content' trailers Nothing padding h =
     let on = read_on (content ≡ content') (IsContent content) (IsContent content') (IsSection L Known trailers then IsRun parts.Padding (replicate padding 0))
-        (agree_string parts.ContentLength parts.Content content content') bytes middle [] (c.spelled parts.ContentLength parts.Content) h.spelled in
+    (agree_string parts.ContentLength parts.Content content content') bytes middle [] (c.spelled parts.ContentLength parts.Content) h.spelled in
     record { same = on.0; tail = inr (refl, on.1) }
 behind_content L bytes content middle most some c content' trailers Trailers padding h =
     let t = h.spelled.spelled in
     let one = one_front (content ≡ content') (IsContent content) (IsContent content') (agree_string parts.ContentLength parts.Content content content') bytes middle []
-        (c.spelled parts.ContentLength parts.Content) (record { text = h.spelled.text; spelled = t.2; joined = h.spelled.joined }) in
+    (c.spelled parts.ContentLength parts.Content) (record { text = h.spelled.text; spelled = t.2; joined = h.spelled.joined }) in
     record { same = one.0; tail = inl (refl, t.0, t.1, one.1) }
 behind_content L bytes content middle most some c content' trailers Both padding h = absurd (no_bytes h.spelled.text bytes h.spelled.joined h.spelled.spelled.3 some)
 
@@ -198,10 +196,10 @@ pub no_trailers : (L : Bounds) (bytes content middle : List ℕ) (most : ℕ) �
 no_trailers L bytes content middle most c some none content' trailers omitted padding h =
     let b = behind_content L bytes content middle most (longer_front bytes middle content most c some) c content' trailers omitted padding h in
     elim b.tail [
-    | inl short ↦ omega (arith, ap length short.3)
-    | inr long ↦
-        let a = starts_apart (IsSection L Known trailers) (IsRun parts.Padding (replicate padding 0)) middle [] long.1 in
-        none trailers a.middle (record { named = h.named; spelled = a.first })
+      | inl short ↦ omega (arith, ap length short.3)
+      | inr long ↦
+          let a = starts_apart (IsSection L Known trailers) (IsRun parts.Padding (replicate padding 0)) middle [] long.1 in
+          none trailers a.middle (record { named = h.named; spelled = a.first })
     ]
 
 -- behind the trailer section something else than zeros stands
@@ -211,9 +209,9 @@ bad_padding L bytes content middle rest trailers most c t none content' trailers
     let some = section_some L middle trailers rest t in
     let b = behind_content L bytes content middle most (longer_front bytes middle content most c some) c content' trailers' omitted padding h in
     elim b.tail [
-    | inl short ↦ omega (arith, ap length short.3)
-    | inr long ↦
-        let a = starts_apart (IsSection L Known trailers') (IsRun parts.Padding (replicate padding 0)) middle [] long.1 in
-        let one = one_section L L middle rest a.middle trailers trailers' t (record { named = h.named; spelled = a.first }) in
-        none padding (one.1 ∙ sym (run_starts parts.Padding (replicate padding 0) a.middle [] a.then_) ∙ append-nil (replicate padding 0))
+      | inl short ↦ omega (arith, ap length short.3)
+      | inr long ↦
+          let a = starts_apart (IsSection L Known trailers') (IsRun parts.Padding (replicate padding 0)) middle [] long.1 in
+          let one = one_section L L middle rest a.middle trailers trailers' t (record { named = h.named; spelled = a.first }) in
+          none padding (one.1 ∙ sym (run_starts parts.Padding (replicate padding 0) a.middle [] a.then_) ∙ append-nil (replicate padding 0))
     ]

@@ -1,6 +1,6 @@
 -- What stands at the front of some bytes is read from left to right.
-use Rattle.std.proofs.Common.{◌≡◌, ◌≤◌, ◌+◌, ℕ, List, [], ◌∷◌, ◌++◌, length, refl, sym, ap, ◌∙◌, append_assoc, append-nil, arith}
-use Rattle.std.proofs.lemmas.List.{length-append, length-map, map-append}
+use Rattle.std.proofs.Common.{◌≡◌, ◌≤◌, ℕ, List, [], ◌++◌, length, refl, sym, ap, ◌∙◌, append_assoc, append-nil, arith}
+use Rattle.std.proofs.lemmas.List.{length-append, map-append}
 use Rattle.bh_spec.specs.declared.Part.{Part}
 use Rattle.bh_spec.specs.Texts.{Text, mark, bytes_of, IsRun, ◌then◌}
 use Rattle.bh_spec.specs.Fronts.{StartsWith}

@@ -1,16 +1,14 @@
 -- Numbers and strings at the front of some bytes.
-use Rattle.std.proofs.Common.{◌≡◌, ◌<◌, ◌≤◌, ◌+◌, ◌⊎◌, ℕ, false, None, List, [], ◌∷◌, ◌++◌, length, take, drop, refl, sym, ap, ◌∙◌, append_assoc, take-append-drop, arith, inl, inr}
+use Rattle.std.proofs.Common.{◌≡◌, ◌<◌, ◌≤◌, ◌⊎◌, ℕ, false, None, List, [], ◌∷◌, ◌++◌, length, take, drop, refl, sym, ap, ◌∙◌, append_assoc, take-append-drop, arith, inl, inr}
 use Rattle.std.proofs.lemmas.List.{length-append}
 use Rattle.bh_spec.specs.declared.Part.{Part}
-use Rattle.bh_spec.specs.declared.Part.TheVariants.{Framing, MethodLength}
 use Rattle.bh_spec.specs.declared.Width.{Width}
 use Rattle.bh_spec.specs.declared.Width.TheVariants.{One, Two, Four, Eight}
 use Rattle.bh_spec.specs.declared.Allowed.{Allowed}
-use Rattle.bh_spec.specs.Integers.{vi, limit_of, byte_count, SomeBegins}
+use Rattle.bh_spec.specs.Integers.{vi, limit_of, SomeBegins}
 use Rattle.bh_spec.specs.Canonical.{greatest}
-use Rattle.bh_spec.specs.Texts.{Text, mark, bytes_of, IsNumber, IsRun, IsString}
+use Rattle.bh_spec.specs.Texts.{mark, bytes_of, IsNumber, IsRun}
 use Rattle.bh_spec.specs.Fronts.{StartsWith, StartsWithNumber, HasNoNumber, StartsWithString, HasNoString}
-use Rattle.bh_spec.proofs.Agreement.{Agree}
 use Rattle.bh_spec.proofs.Numbers.{number_meets}
 use Rattle.bh_spec.proofs.Reading.{starts_then, starts_apart, read_on, starts_run, run_starts}
 use Rattle.bh_spec.proofs.Written.{unmark}
@@ -62,12 +60,12 @@ number_dead front more byte none dead part n rest h =
     let fits = h.spelled.fits in
     let same = number_bytes part n ((front ++ (byte ∷ [])) ++ more) rest h in
     elim (shorter (length (vi n w)) (length front)) [
-    | inl short ↦
-        let l = longer_front (vi n w) front rest ((byte ∷ []) ++ more) (same ∙ append_assoc front (byte ∷ []) more) short in
-        none n w l.more fits (sym l.same)
-    | inr long ↦
-        let l = longer_front (front ++ (byte ∷ [])) (vi n w) more rest (sym same) (omega (arith, length-append front (byte ∷ []))) in
-        dead (n, w, (fits, (l.more, l.same)), inr ((omega arith, in_range w n fits), tt))
+      | inl short ↦
+          let l = longer_front (vi n w) front rest ((byte ∷ []) ++ more) (same ∙ append_assoc front (byte ∷ []) more) short in
+          none n w l.more fits (sym l.same)
+      | inr long ↦
+          let l = longer_front (front ++ (byte ∷ [])) (vi n w) more rest (sym same) (omega (arith, length-append front (byte ∷ []))) in
+          dead (n, w, (fits, (l.more, l.same)), inr ((omega arith, in_range w n fits), tt))
     ]
   where
     shorter : (m k : ℕ) → (m ≤ k) ⊎ (k < m)
@@ -103,6 +101,6 @@ string_too_long bytes middle n most number long long_part part string rest withi
     let on = read_on (n ≡ length string) (IsNumber long_part n) (IsNumber long_part (length string)) (IsRun part string) (number_meets long_part n (length string)) bytes middle rest (number long_part) h in
     let run = run_starts part string middle rest on.1 in
     elim long [
-    | inl limit ↦ omega (arith, on.0)
-    | inr short ↦ omega (arith, on.0, ap length run, length-append string rest)
+      | inl limit ↦ omega (arith, on.0)
+      | inr short ↦ omega (arith, on.0, ap length run, length-append string rest)
     ]

@@ -23,7 +23,7 @@ use Rattle.bh_spec.proofs.Sections.{IsNamed, section_agrees, section_nonempty, b
 
 -- ---- tails
 
-abbrev SameTail : List ℕ → List ℕ → List Field → List Field → Omitted → Omitted → ℕ → ℕ → Type 0
+abbrev pub SameTail : List ℕ → List ℕ → List Field → List Field → Omitted → Omitted → ℕ → ℕ → Type 0
 SameTail c d fs gs o p y z = (c ≡ d) × (fs ≡ gs) × (o ≡ p) × (y ≡ z)
 
 padding_meets : (y z : ℕ) → Meets (Unit {0}) (y ≡ z) (mark parts.Padding (replicate y 0)) (mark parts.Padding (replicate z 0))
@@ -115,7 +115,7 @@ control_is c d p q r s =
     ap (λ (x : List ℕ). control x c.scheme c.authority c.path) p ∙ ap (λ (x : List ℕ). control d.method x c.authority c.path) q
     ∙ ap (λ (x : List ℕ). control d.method d.scheme x c.path) r ∙ ap (λ (x : List ℕ). control d.method d.scheme d.authority x) s
 
-request_agrees : (K L : Bounds) (c d : Control) → Agree ⊥ (c ≡ d) (IsRequest K c) (IsRequest L d)
+pub request_agrees : (K L : Bounds) (c d : Control) → Agree ⊥ (c ≡ d) (IsRequest K c) (IsRequest L d)
 request_agrees K L c d t u r s =
     agree_then ⊥ (c.method ≡ d.method) (c ≡ d) (method c) (scheme r.scheme then authority c then path c) (method d) (scheme s.scheme then authority d then path d)
     (agree_string parts.MethodLength parts.Method c.method d.method)
@@ -197,7 +197,7 @@ framing_is Response Response Indeterminate Indeterminate e = (refl, refl)
 abbrev message : Start → List Field → List ℕ → List Field → Message
 message a b c d = record { start = a; fields = b; content = c; trailers = d }
 
-message_is : (m n : Message) → m.start ≡ n.start → m.fields ≡ n.fields → m.content ≡ n.content → m.trailers ≡ n.trailers → m ≡ n
+pub message_is : (m n : Message) → m.start ≡ n.start → m.fields ≡ n.fields → m.content ≡ n.content → m.trailers ≡ n.trailers → m ≡ n
 message_is m n p q r s =
     ap (λ (x : Start). message x m.fields m.content m.trailers) p ∙ ap (λ (x : List Field). message n.start x m.content m.trailers) q
     ∙ ap (λ (x : List ℕ). message n.start n.fields x m.trailers) r ∙ ap (λ (x : List Field). message n.start n.fields n.content x) s

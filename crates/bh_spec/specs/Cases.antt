@@ -1,7 +1,7 @@
 -- Worked cases: bytes, and the message that they spell or the refusal that they get.
 use Rattle.std.specs.Prelude.{ℕ, ◌≡◌, ◌^◌, List, [], ◌∷◌, ◌++◌, codes, Some}
 use Rattle.bh_spec.specs.declared.Omitted.TheVariants.{Nothing, Trailers, Both}
-use Rattle.bh_spec.specs.declared.Refusal.TheVariants.{Dead, Ended}
+use Rattle.bh_spec.specs.declared.Refusal.TheVariants.{Dead, Ended, TooLong}
 use Rattle.bh_spec.specs.declared.Width.TheVariants.{One, Two, Four, Eight}
 use Rattle.bh_spec.specs.declared.Part.TheVariants as parts
 use Rattle.bh_spec.specs.Integers.{vi, int}
@@ -10,8 +10,9 @@ use Rattle.bh_spec.specs.Messages.{Message, Field, request, response}
 use Rattle.bh_spec.specs.Canonical.{canon, known}
 use Rattle.bh_spec.specs.Answers.{whole, refused, IsAnswer}
 
+-- the default limits
 abbrev pub defaults : Bounds
-defaults = record { part = Some 8192; section = Some 65536; interims = Some 16; input = Some (2 ^ 40) }
+defaults = record { part = Some 8192; section = Some 65536; interims = Some 16; input = Some (2 ^ 24) }
 
 -- a GET of https with these fields, for the path /
 abbrev pub get : List Field → Message
@@ -68,6 +69,27 @@ post_bytes = 0x02 ∷ 0x04 ∷ 0x50 ∷ 0x4f ∷ 0x53 ∷ 0x54 ∷ 0x05 ∷ 0x68
 -- Chunked content, and the trailer section is left out.
 abbrev pub TrailersLeftOut : Type 0
 TrailersLeftOut = IsAnswer defaults post_bytes (whole post Trailers 0) × (canon post ≡ post_bytes ++ (0x00 ∷ []))
+
+-- A response behind an interim response: a status of 103 and an empty section.
+abbrev pub hinted : Message
+hinted = record { start = response (record { status = 103; fields = [] } ∷ []) 200; fields = []; content = []; trailers = [] }
+
+abbrev pub InterimResponse : Type 0
+InterimResponse = IsAnswer defaults (0x01 ∷ 0x40 ∷ 0x67 ∷ 0x00 ∷ 0x40 ∷ 0xc8 ∷ 0x00 ∷ []) (whole hinted Both 0)
+    × (canon hinted ≡ 0x03 ∷ 0x40 ∷ 0x67 ∷ 0x00 ∷ 0x40 ∷ 0xc8 ∷ 0x00 ∷ 0x00 ∷ 0x00 ∷ [])
+
+-- a pseudo-field with an empty value
+abbrev pub field_b : Field
+field_b = record { name = codes ":b"; value = [] }
+
+-- It may stand in a header section.
+abbrev pub PseudoField : Type 0
+PseudoField = IsAnswer defaults (0x00 ∷ (get_bytes ++ (0x04 ∷ 0x02 ∷ 0x3a ∷ 0x62 ∷ 0x00 ∷ []))) (whole (get (field_b ∷ [])) Both 0)
+    × (canon (get (field_b ∷ [])) ≡ 0x02 ∷ (get_bytes ++ (0x02 ∷ 0x3a ∷ 0x62 ∷ 0x00 ∷ 0x00 ∷ 0x00 ∷ 0x00 ∷ [])))
+
+-- One byte more than the limit of the input; what stands before it is a message.
+abbrev pub InputTooLong : Type 0
+InputTooLong = IsAnswer (record { part = Some 8192; section = Some 65536; interims = Some 16; input = Some 15 }) (0x00 ∷ (get_bytes ++ (0x00 ∷ 0x00 ∷ []))) (refused (TooLong 15))
 
 -- The first byte shows a framing number of 256 or more.
 abbrev pub FramingTooGreat : Type 0

@@ -36,7 +36,7 @@ HasNoString bytes most = (long part : Part) (string rest : List ℕ) → length 
 abbrev pub IsNamed : Field → Type 0
 IsNamed field = 0 < length field.name
 
--- a line with this name, as it is spelled, and this value
+-- a line with this name, in some case of letters, and this value
 pub record StartsWithLine (bytes : List ℕ) (most : ℕ) (name value rest : List ℕ) : Type 0 where
   pub named : 0 < length name
   pub name_within : length name ≤ most
@@ -59,7 +59,7 @@ pub record StartsWithSection (L : Bounds) (bytes : List ℕ) (fields : List Fiel
 abbrev pub HasNoSection : Bounds → List ℕ → Type 0
 HasNoSection L bytes = (fields : List Field) (rest : List ℕ) → StartsWithSection L bytes fields rest → ⊥
 
--- the control data whose strings are these, the scheme as it is spelled
+-- the control data whose strings are these, the scheme in any case of letters
 abbrev pub spelled_control : List ℕ → List ℕ → List ℕ → List ℕ → Control
 spelled_control method scheme authority path = record { method = method; scheme = lower scheme; authority = authority; path = path }
 

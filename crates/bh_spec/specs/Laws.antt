@@ -23,14 +23,15 @@ OneNext = (K L : Bounds) (bytes : List ℕ) (p q : Part) → NextPart K bytes p 
 abbrev pub SomeNext : Type 0
 SomeNext = (L : Bounds) (bytes : List ℕ) → IsViable L bytes → (part : Part) × NextPart L bytes part
 
--- What fits the limits has both spellings within them; what has some spelling within them fits.
+-- What fits the limits has its canonical text within them, where each of its lengths can be written.
 abbrev pub CanonIsSpelled : Type 0
 CanonIsSpelled = (L : Bounds) (m : Message) → IsValid m → IsWritable m → Fits L m → SpellsBytes L m Nothing 0 (canon m)
 
--- So has it the known-length spelling.
+-- So has it the known-length text.
 abbrev pub KnownIsSpelled : Type 0
 KnownIsSpelled = (L : Bounds) (m : Message) → IsValid m → IsWritable m → Fits L m → SpellsBytes L m Nothing 0 (known m)
 
+-- What has some text within the limits fits them.
 abbrev pub FitsWhereSpelled : Type 0
 FitsWhereSpelled = (L : Bounds) (m : Message) (o : Omitted) (z : ℕ) (t : Text) → Spells L m o z t → Fits L m
 

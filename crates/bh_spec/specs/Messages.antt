@@ -1,4 +1,4 @@
--- Messages (RFC 9292, section 3), and which of them are valid in this profile (docs/FORMAT.md, "Validity").
+-- Messages (RFC 9292, section 3), and which of them are valid in this profile (docs/FORMAT.md, "Messages and their validity").
 use Rattle.std.specs.Prelude.{ℕ, ◌≡◌, ◌<◌, ◌≤◌, ◌⊎◌, List, ◌∷◌, ◌++◌, length, All, codes, IsTrue, IsFalse, slice_index, ◌-◌}
 use Rattle.bh_spec.specs.declared.Kind.{Kind}
 use Rattle.bh_spec.specs.declared.Kind.TheVariants.{Request, Response}

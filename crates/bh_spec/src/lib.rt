@@ -1,15 +1,16 @@
 //! The binary format in definitions, and its laws.
 //!
-//! The definitions stand in `specs/`: `Integers`, `Bytes`, `Messages`, `Sections`, `Tails`, `Spelling`, `Viable`,
-//! `Answers`, `Canonical` and `Reports`; docs/FORMAT.md says them in words. The types here are those that the definitions
-//! speak of. Each function is empty: its contract is a law about the definitions, or a worked case.
+//! The definitions stand in `specs/`: `Integers`, `Bounds`, `Bytes`, `Messages`, `Texts`, `Sections`, `Tails`, `Spelling`,
+//! `Viable`, `Answers`, `Canonical`, `Reports` and `Parts`, which docs/FORMAT.md says in words; `Fronts` and `Alive` say what
+//! readers find, `Laws` has the laws, and `Cases` the worked cases. The types here are those that the definitions speak of.
+//! Each function but `Part::number` is empty: its contract is a law about the definitions, or a worked case.
 #![tactic(auto)]
 
 ghost use Rattle.std.specs.Prelude.{◌≡◌};
 ghost use Rattle.bh_spec.specs.Parts.{number_of};
 ghost use Rattle.bh_spec.specs.Laws.{OneReading, OneNext, SomeNext, CanonIsSpelled, KnownIsSpelled, FitsWhereSpelled, WithoutLimits, CanonOnce};
 ghost use Rattle.bh_spec.specs.Alive.{AliveByInterval, FramingAlive, SectionLengthAlive, ValueLengthAlive, LineStep, NameAlive, PseudoAlive};
-ghost use Rattle.bh_spec.specs.Cases.{TailLeftOut, PaddingCounted, UpperCaseName, FramingInFourBytes, TrailersLeftOut, FramingTooGreat, HeaderSectionMissing, IntegerVectors, IntegerBoundaries};
+ghost use Rattle.bh_spec.specs.Cases.{TailLeftOut, PaddingCounted, UpperCaseName, FramingInFourBytes, TrailersLeftOut, InterimResponse, PseudoField, InputTooLong, FramingTooGreat, HeaderSectionMissing, IntegerVectors, IntegerBoundaries};
 
 /// The width of an integer: 1, 2, 4 or 8 bytes (RFC 9000, section 16).
 #[derive(Clone, Copy, Debug, PartialEq, Eq)]
@@ -141,12 +142,14 @@ pub fn some_next_part()
     ensures { SomeNext }
 {}
 
-/// What fits the limits has its canonical text within them.
+/// What fits the limits has its canonical text within them, where the message is valid and each of its lengths can be
+/// written.
 pub fn canon_is_spelled()
     ensures { CanonIsSpelled }
 {}
 
-/// What fits the limits has its known-length text within them.
+/// What fits the limits has its known-length text within them, where the message is valid and each of its lengths can be
+/// written.
 pub fn known_is_spelled()
     ensures { KnownIsSpelled }
 {}
@@ -224,6 +227,21 @@ pub fn a_framing_number_may_have_four_bytes()
 /// Worked case: chunked content, and no trailer section.
 pub fn the_trailer_section_may_be_left_out()
     ensures { TrailersLeftOut }
+{}
+
+/// Worked case: a response behind an interim response.
+pub fn an_interim_response_is_read()
+    ensures { InterimResponse }
+{}
+
+/// Worked case: a pseudo-field in a header section.
+pub fn a_pseudo_field_may_stand_in_a_header_section()
+    ensures { PseudoField }
+{}
+
+/// Worked case: a message, and one byte more than the limit of the input.
+pub fn an_input_beyond_its_limit_is_too_long()
+    ensures { InputTooLong }
 {}
 
 /// Worked case: the first byte shows that the framing number is too great.

@@ -1,0 +1,6 @@
+pub mod Calls
+pub mod Chains
+pub mod Fronts
+pub mod SinkCalls
+pub mod DoorCalls
+pub mod ShelfCalls

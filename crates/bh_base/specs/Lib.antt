@@ -1,0 +1,12 @@
+pub mod Steps
+pub mod Doors
+pub mod Logged
+pub mod Inside
+pub mod Memory
+pub mod MemoryLaws
+pub mod InsideDoor
+pub mod MemDoors
+pub mod MemSinks
+pub mod InsideSink
+pub mod MemShelves
+pub mod InsideShelf
