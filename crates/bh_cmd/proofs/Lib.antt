@@ -1,0 +1,10 @@
+pub mod Fronts
+pub mod Inputs
+pub mod Refusals
+pub mod OneVerdict
+pub mod RunLemmas
+pub mod VerdictLemmas
+pub mod CanonLemmas
+pub mod Words
+pub mod Chunks
+pub mod Whole

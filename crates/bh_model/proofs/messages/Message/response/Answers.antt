@@ -1,0 +1,26 @@
+use Rattle.std.proofs.Common.{◌≡◌, ◌∙◌, refl, sym, subst, ℕ, List}
+use Rattle.std.proofs.lemmas.Bool.{false≢true}
+use Rattle.std.proofs.lemmas.Result.{err_from_is_err_and}
+use Rattle.bh_model.specs.declared.messages.Start.TheVariants.{Response}
+use Rattle.bh_model.specs.Rules.{response_rules}
+use Rattle.bh_model.specs.Held.{IsMessage}
+use Rattle.bh_model.proofs.RuleLemmas.{broken_not_kept}
+use Rattle.bh_model.proofs.MessageLemmas.{AreBytes, message_from_kept, kept_from_message}
+use Rattle.bh_model.proofs.messages.Message.response.Goals as goal
+
+pub invariant_of-result : goal.invariant_of-result
+invariant_of-result c = ∣ message_from_kept (Response c.args.interims c.args.status) c.args.fields c.args.content c.args.trailers (subst AreBytes c.content.view_is c.content.invariant) c.in_ok-judge_response.ensures.kept ∣₁
+
+pub returns-clause-valid : goal.returns-clause-valid
+returns-clause-valid c =
+    let m = message_from_kept (Response c.args.interims c.args.status) c.args.fields c.args.content c.args.trailers (subst AreBytes c.content.view_is c.content.invariant) c.in_ok-judge_response.ensures.kept in
+    (λ e. (m.valid, m.start_ended, m.fields_ended, m.trailers_ended), λ h. refl)
+
+pub returns-in_err-judge_response-clause-valid : goal.returns-in_err-judge_response-clause-valid
+returns-in_err-judge_response-clause-valid c =
+    let p = err_from_is_err_and c.from_residual.result c.from_residual.ensures.1 in
+    rw p.1 (
+      λ e. absurd (false≢true e),
+      λ h. absurd (broken_not_kept (response_rules c.args.interims c.args.status c.args.fields c.args.trailers) c.in_err-judge_response.field-0.0 c.in_err-judge_response.ensures.first
+          (kept_from_message (Response c.args.interims c.args.status) c.args.fields c.args.content c.args.trailers (record { valid = h.0; start_ended = h.1; fields_ended = h.2; trailers_ended = h.3 }))),
+    )

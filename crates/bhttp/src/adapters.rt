@@ -1,0 +1,174 @@
+//! The streams of the process as a port and a sink. They tell nothing of content, and count each error of the system as a
+//! fault: a failed read or write, a write that takes nothing of a piece that isn't empty, and a failed flush.
+ghost use Rattle.std.specs.Prelude.{◌≡◌, ◌≤◌, ◌<◌, false, length, IfOk, None, refl};
+ghost use Rattle.bh_base.specs.Steps.{ReadFacts, WriteFacts, is_empty};
+
+use bh_base::{Failed, Port, Sink, Source};
+use std::io::{Read, Write};
+
+/// A reader and a writer as a port. Once the reader gave its end, it isn't asked again.
+#[derive(Drop)]
+pub struct StdPort<R: Read, W: Write> {
+    input: R,
+    output: W,
+    ended: bool,
+    read_faults: u64,
+    write_faults: u64,
+}
+
+impl<R: Read, W: Write> StdPort<R, W> {
+    /// Of which nothing was asked yet.
+    pub fn new(input: R, output: W) -> Self
+        ensures faults { (result.read_faults ≡ 0) × (result.write_faults ≡ 0) }
+        ensures ended { result.ended ≡ false }
+    {
+        StdPort {
+            input,
+            output,
+            ended: false,
+            read_faults: 0,
+            write_faults: 0,
+        }
+    }
+}
+
+impl<R: Read, W: Write> Source for StdPort<R, W> {
+    ghost left = { λ p. None };
+
+    ghost read_faults = { λ p. p.read_faults };
+
+    ghost ended = { λ p. p.ended };
+
+    ghost read_step = { λ s idle r bytes t.
+        ReadFacts (λ p. None) (λ p. p.read_faults) (λ p. p.ended) s idle r bytes t × (t.write_faults ≡ s.write_faults) };
+
+    ghost read_law = { λ s t idle r bytes h. h.0 };
+
+    ghost ended_law = { λ s e. tt };
+
+    fn read(&mut self, buf: &mut [u8]) -> Result<usize, Failed> {
+        if self.ended {
+            return Ok(0);
+        }
+        match self.input.read(buf) {
+            Ok(count) => {
+                if count == 0 && !buf.is_empty() {
+                    self.ended = true;
+                }
+                Ok(count)
+            }
+            Err(_) => {
+                self.read_faults = self.read_faults.saturating_add(1);
+                Err(Failed)
+            }
+        }
+    }
+}
+
+impl<R: Read, W: Write> Sink for StdPort<R, W> {
+    ghost sent = { λ p. None };
+
+    ghost write_faults = { λ p. p.write_faults };
+
+    ghost write_step = { λ s idle r bytes t.
+        WriteFacts (λ p. None) (λ p. p.write_faults) s idle r bytes t × (t.read_faults ≡ s.read_faults) × (t.ended ≡ s.ended) };
+
+    ghost write_law = { λ s t idle r bytes h. h.0 };
+
+    fn write(&mut self, piece: &[u8]) -> Result<usize, Failed> {
+        match send(&mut self.output, piece) {
+            Ok(count) => Ok(count),
+            Err(failed) => {
+                self.write_faults = self.write_faults.saturating_add(1);
+                Err(failed)
+            }
+        }
+    }
+}
+
+impl<R: Read, W: Write> Port for StdPort<R, W> {
+    ghost log = { λ p. None };
+
+    ghost read_leaves = { λ s t idle r bytes h. record { same_sent = refl; same_faults = h.1; logs = tt } };
+
+    ghost write_leaves = { λ s t idle r bytes h. record { same_left = refl; same_faults = h.1; same_end = h.2; logs = tt } };
+}
+
+/// A write and a flush.
+fn send<W: Write>(output: &mut W, piece: &[u8]) -> Result<usize, Failed>
+    ensures { IfOk result (λ n. (n ≤ length piece.now) × (is_empty piece.now ≡ false → 0 < n)) }
+{
+    let count = output.write(piece).map_err(|_| Failed)?;
+    if count == 0 && !piece.is_empty() {
+        return Err(Failed);
+    }
+    output.flush().map_err(|_| Failed)?;
+    Ok(count)
+}
+
+/// A writer as a sink.
+#[derive(Drop)]
+pub struct ErrSink<W: Write> {
+    output: W,
+    faults: u64,
+}
+
+impl<W: Write> ErrSink<W> {
+    /// To which nothing was written yet.
+    pub fn new(output: W) -> Self
+        ensures { result.faults ≡ 0 }
+    {
+        ErrSink { output, faults: 0 }
+    }
+}
+
+impl<W: Write> Sink for ErrSink<W> {
+    ghost sent = { λ p. None };
+
+    ghost write_faults = { λ p. p.faults };
+
+    ghost write_step = { λ s idle r bytes t. WriteFacts (λ p. None) (λ p. p.faults) s idle r bytes t };
+
+    ghost write_law = { λ s t idle r bytes h. h };
+
+    fn write(&mut self, piece: &[u8]) -> Result<usize, Failed> {
+        match send(&mut self.output, piece) {
+            Ok(count) => Ok(count),
+            Err(failed) => {
+                self.faults = self.faults.saturating_add(1);
+                Err(failed)
+            }
+        }
+    }
+}
+
+#[cfg(test)]
+mod tests {
+    use super::*;
+    use bh_base::write_all;
+    use std::test::Fail;
+
+    #[test]
+    fn a_port_reads_to_its_end_and_writes(rt: HostRuntime) -> Result<(), Fail> {
+        let mut port = StdPort::new(b"abc".as_slice(), Vec::new(rt.alloc()));
+        let mut buf = [0; 2];
+        assert_eq!(rt; port.read(&mut buf)?, 2);
+        assert_eq!(rt; buf, *b"ab");
+        assert_eq!(rt; port.read(&mut buf)?, 1);
+        assert_eq!(rt; port.read(&mut buf)?, 0);
+        assert_eq!(rt; port.read(&mut buf)?, 0);
+        write_all(&mut port, b"hello")?;
+        assert_eq!(rt; port.output.as_slice(), b"hello".as_slice());
+        assert_eq!(rt; (port.read_faults, port.write_faults), (0, 0));
+        Ok(())
+    }
+
+    #[test]
+    fn a_sink_writes(rt: HostRuntime) -> Result<(), Fail> {
+        let mut sink = ErrSink::new(Vec::new(rt.alloc()));
+        write_all(&mut sink, b"hello")?;
+        assert_eq!(rt; sink.output.as_slice(), b"hello".as_slice());
+        assert_eq!(rt; sink.faults, 0);
+        Ok(())
+    }
+}
