@@ -1,5 +1,5 @@
 -- Whether a rule holds can be decided, so that a truncated rule is a rule.
-use Rattle.std.proofs.Common.{arith, refl, sym, ap, ◌≡◌, ◌∙◌, ◌≤◌, ◌<◌, ◌-◌, ◌++◌, ◌∷◌, [], ℕ, Bool, true, false, List, length, Option, Some, None, inl, inr, codes, eqb, eqb-true, eq-eqb, leb-true, le-leb, ltb-true, lt-ltb, subst}
+use Rattle.std.proofs.Common.{refl, sym, ap, ◌≡◌, ◌≤◌, ◌<◌, ◌-◌, ◌∷◌, [], ℕ, Bool, true, false, List, length, Some, None, inl, inr, codes, eqb, eqb-true, eq-eqb, leb-true, le-leb, ltb-true, lt-ltb, subst}
 use Rattle.std.specs.Prelude.{◌⊎◌, All, IsTrue, IsFalse, slice_index, nat_le, nat_lt}
 use Rattle.std.proofs.Math.Logic.{∥∥₁_elim}
 use Rattle.std.proofs.lemmas.Bool.{false≢true}
@@ -9,7 +9,7 @@ use Rattle.bh_spec.specs.Messages.{Field, Control, IsToken, IsPseudo, IsValue, I
 use Rattle.bh_model.specs.declared.field.Place.TheVariants.{Header, Trailer}
 use Rattle.bh_model.specs.declared.messages.Start as begun
 use Rattle.bh_model.specs.Lines.{FieldsView}
-use Rattle.bh_model.specs.Rules.{Rule, IsControlName, method_rule, scheme_rule, authority_rule, path_rule, status_rule, name_rule, value_rule, ended_rule, IsKept, AreKept, IsWebPath, IsPath, IsNameBehind}
+use Rattle.bh_model.specs.Rules.{Rule, IsControlName, method_rule, scheme_rule, authority_rule, path_rule, status_rule, name_rule, value_rule, ended_rule, IsKept, AreKept, IsWebPath, IsPath}
 use Rattle.bh_model.specs.Held.{message_of, IsMessage}
 use Rattle.bh_model.proofs.MessageLemmas.{AreBytes, rules_of, message_from_kept, kept_from_message}
 

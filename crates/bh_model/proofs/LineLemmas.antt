@@ -7,7 +7,7 @@ use Rattle.std.proofs.lemmas.Str.Ascii.{lowercase-lowercase}
 use Rattle.bh_spec.specs.Bytes.{lower}
 use Rattle.bh_spec.specs.Messages.{Field}
 use Rattle.bh_model.specs.declared.field.LineEnds.{LineEnds}
-use Rattle.bh_model.specs.Lines.{lines_room, line_room, making_room, making_count, name_grown, value_grown, lowered, cut, end_of, begun, begun_count, IsCut, IsBegun}
+use Rattle.bh_model.specs.Lines.{lines_room, making_room, making_count, name_grown, value_grown, lowered, cut, end_of, begun, begun_count, IsCut, IsBegun}
 
 pub end_of-push : (s : ℕ) (ix : List LineEnds) (e : LineEnds) → end_of s (ix ++ e ∷ []) ≡ e.value
 end_of-push s [] e = refl

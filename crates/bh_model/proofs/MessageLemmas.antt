@@ -1,18 +1,17 @@
 -- A message is valid exactly where its values keep their rules.
-use Rattle.std.proofs.Common.{arith, refl, sym, ap, ◌≡◌, ◌∙◌, ◌≤◌, ◌<◌, ◌++◌, ◌∷◌, [], ℕ, List, length, map, Option, Some, None}
-use Rattle.std.specs.Prelude.{◌⊎◌, ◌↔◌, All}
+use Rattle.std.proofs.Common.{◌<◌, ◌++◌, ◌∷◌, [], ℕ, List, map}
+use Rattle.std.specs.Prelude.{All}
 use Rattle.std.proofs.lemmas.List.Elements.{All-nil, All-cons, All-head, All-tail}
-use Rattle.bh_spec.specs.Messages.{Field, Control, Interim, IsControl, IsInterim, IsValid}
+use Rattle.bh_spec.specs.Messages.{Control, IsControl, IsInterim}
 use Rattle.bh_model.specs.declared.field.Place.{Place}
 use Rattle.bh_model.specs.declared.field.Place.TheVariants.{Header, Trailer}
 use Rattle.bh_model.specs.declared.informational.Interim as held
-use Rattle.bh_model.specs.declared.control_data.Control as stored
 use Rattle.bh_model.specs.declared.messages.Start as begun
 use Rattle.bh_model.specs.declared.messages.Start.TheVariants.{Request, Response}
 use Rattle.bh_model.specs.Lines.{FieldsView}
 use Rattle.bh_model.specs.Rules.{Rule, ended_rule, status_rule, AreKept, control_rules, line_rules, section_rules, interims_rules, request_rules, response_rules, AreLines}
 use Rattle.bh_model.specs.Values.{control_of, interim_of, IsEnded, AreEnded}
-use Rattle.bh_model.specs.Held.{start_of, message_of, IsHeld, IsMessage}
+use Rattle.bh_model.specs.Held.{IsMessage}
 use Rattle.bh_model.proofs.RuleLemmas.{AreKept-append, kept_front, kept_back, lines_from_kept, kept_from_lines}
 
 abbrev pub AreBytes : List ℕ → Type 0
@@ -54,9 +53,6 @@ kept_from_interims (i ∷ is) valid ended =
           (kept_from_section Header i.fields own.fields (All-head IsEndedInterim i is ended))
           (kept_from_interims is (All-tail IsInterim (interim_of i) (map interim_of is) valid) (All-tail IsEndedInterim i is ended)),
     )
-
-sections_rules : FieldsView → FieldsView → List Rule
-sections_rules f t = section_rules Header f ++ section_rules Trailer t
 
 abbrev pub rules_of : begun.Start → FieldsView → FieldsView → List Rule
 rules_of (Request c) f t = request_rules (control_of c) f t

@@ -1,16 +1,16 @@
 -- The rules of a message's values: which hold, and the first that does not.
-use Rattle.std.proofs.Common.{arith, refl, sym, ap, subst, ◌≡◌, ◌∙◌, ◌≤◌, ◌<◌, ◌+◌, ◌++◌, ◌∷◌, [], ℕ, zero, suc, Bool, true, false, not, List, length, take, drop, get_or, Option, Some, None, inl, inr, append_assoc, add-one}
-use Rattle.std.specs.Prelude.{◌⊎◌, ◌↔◌, ◌&&◌, IsTrue, All, codes, slice_get, unwrap_or}
+use Rattle.std.proofs.Common.{refl, sym, ap, subst, ◌≡◌, ◌∙◌, ◌+◌, ◌++◌, ◌∷◌, [], ℕ, zero, suc, Bool, true, false, List, take, drop, Option, Some, inl, inr, append_assoc, add-one}
+use Rattle.std.specs.Prelude.{◌⊎◌, ◌↔◌, ◌&&◌, IsTrue, All, slice_get, unwrap_or}
 use Rattle.std.proofs.lemmas.Bool.{false≢true}
-use Rattle.std.proofs.lemmas.List.{append-nil, length-append}
-use Rattle.std.proofs.lemmas.List.Elements.{All-nil, All-cons, All-head, All-tail, All-append, All-push}
+use Rattle.std.proofs.lemmas.List.{append-nil}
+use Rattle.std.proofs.lemmas.List.Elements.{All-nil, All-cons, All-head, All-tail, All-push}
 use Rattle.bh_spec.specs.declared.Part.{Part}
 use Rattle.bh_spec.specs.declared.Part.TheVariants.{Name, Value}
 use Rattle.bh_spec.specs.Bytes.{is_token, lower}
-use Rattle.bh_spec.specs.Messages.{Field, IsToken, IsPseudo, IsValue, IsRegularField, IsPseudoField, AreHeaders, AreTrailers}
+use Rattle.bh_spec.specs.Messages.{Field, IsToken, IsPseudo, IsValue, IsRegularField, IsPseudoField, AreHeaders}
 use Rattle.bh_model.specs.declared.field.Place.{Place}
 use Rattle.bh_model.specs.declared.field.Place.TheVariants.{Header, Trailer}
-use Rattle.bh_model.specs.Rules.{Rule, name_rule, value_rule, IsKept, AreKept, IsFirstBroken, IsNameBehind, line_rules, AreLines}
+use Rattle.bh_model.specs.Rules.{Rule, name_rule, value_rule, AreKept, IsFirstBroken, IsNameBehind, line_rules, AreLines}
 
 pub AreKept-append : (xs ys : List Rule) → AreKept xs → AreKept ys → AreKept (xs ++ ys)
 AreKept-append [] ys h k = k
@@ -207,3 +207,11 @@ pseudo_more place lines i line false more s m = (
 -- where a rule is broken, lines are no section of their place
 pub no_lines : (place : Place) (lines : List Field) (part : Part) → IsFirstBroken (line_rules place [] lines) part → AreLines place lines → ⊥
 no_lines place lines part broken h = broken_not_kept (line_rules place [] lines) part broken (kept_from_lines place lines h)
+
+-- one part is the first that breaks its rule
+pub one_broken : (rules : List Rule) (p q : Part) → IsFirstBroken rules p → IsFirstBroken rules q → p ≡ q
+one_broken [] p q h k = absurd h
+one_broken (r ∷ rules) p q (inl h) (inl k) = h.0 ∙ sym k.0
+one_broken (r ∷ rules) p q (inl h) (inr k) = absurd (h.1 k.0)
+one_broken (r ∷ rules) p q (inr h) (inl k) = absurd (k.1 h.0)
+one_broken (r ∷ rules) p q (inr h) (inr k) = one_broken rules p q h.1 k.1

@@ -1,6 +1,6 @@
 -- The messages that the program's values are.
 use Rattle.std.specs.Prelude.{ℕ, ◌≡◌, List, map, All, Option, Some, None}
-use Rattle.bh_spec.specs.Messages.{Field, Control, Interim, Start, request, response, Message}
+use Rattle.bh_spec.specs.Messages.{Control, Interim, Start, request, response, Message}
 use Rattle.bh_model.specs.declared.control_data.Control as stored
 use Rattle.bh_model.specs.declared.control_data.ControlView as lent
 use Rattle.bh_model.specs.declared.informational.Interim as held

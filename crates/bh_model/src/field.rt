@@ -29,11 +29,14 @@ struct LineEnds {
 /// its name and value and 2 more of `spare`, and 1 of `free`. Names are stored in lower case.
 #[derive(Drop)]
 pub struct Fields {
+    /// The names and values, one behind another.
     bytes: Vec<u8>,
     ends: Vec<LineEnds>,
     /// Where the name of the line that is being made ends.
     making: Option<usize>,
+    /// The bytes that there is room for where there is no line.
     room: usize,
+    /// The lines that there is room for where there is none.
     most: usize,
 }
 
@@ -210,6 +213,7 @@ impl Fields {
         ensures valid { IsNone result ↔ AreLines place self.now.lines }
         ensures first { IfSome result (IsFirstBroken (line_rules place [] self.now.lines)) }
     {
+        // A pseudo-field may stand as long as each line before it is one.
         let mut may_be_pseudo = place == Place::Header;
         for i in 0..self.len() {
             let (name, value) = self.line(i);
@@ -293,5 +297,6 @@ fn push_bytes(to: &mut Vec<u8>, bytes: &[u8])
     ensures len { vec_len to.new ≡ vec_len to.old + length bytes.now }
     ensures capacity { vec_capacity to.old ≤ vec_capacity to.new }
 {
+    // It can't fail within the capacity.
     let _ = to.extend_from_slice(bytes);
 }

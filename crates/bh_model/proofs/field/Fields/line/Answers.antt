@@ -1,4 +1,4 @@
-use Rattle.std.proofs.Common.{rules, arith, ap, sym, ◌≡◌, ◌∙◌, ◌<◌, length, vec_len, List, take}
+use Rattle.std.proofs.Common.{arith, ap, sym, ◌∙◌, length, List, take}
 use Rattle.std.specs.Prelude.{slice_get}
 use Rattle.bh_model.specs.Lines.{FieldsView, cut, end_of}
 use Rattle.bh_model.specs.declared.field.LineEnds.{LineEnds}

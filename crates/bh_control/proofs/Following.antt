@@ -1,0 +1,249 @@
+-- The bytes since a reader began, and what completes them.
+use Rattle.std.proofs.Common.{◌≡◌, arith, ℕ, zero, suc, List, [], ◌∷◌, ◌++◌, length, refl, sym, ap, ap₂, subst, ◌∙◌, append_assoc, append-nil}
+use Rattle.std.proofs.lemmas.List.{length-map}
+use Rattle.bh_spec.specs.declared.Part.{Part}
+use Rattle.bh_spec.specs.declared.Part.TheVariants as parts
+use Rattle.bh_spec.specs.Integers.{vi}
+use Rattle.bh_spec.specs.Bounds.{Bounds, IsWithin}
+use Rattle.bh_spec.specs.Bytes.{lower}
+use Rattle.bh_spec.specs.Messages.{Control, IsControl}
+use Rattle.bh_spec.specs.Spelling.{IsRequest}
+use Rattle.bh_spec.specs.Texts.{Text, mark, bytes_of, ◌then◌, IsString}
+use Rattle.bh_spec.proofs.Meeting.{meets_map, meets_one}
+use Rattle.bh_spec.proofs.Agreement.{Agree, agree_then, agree_map, agree_string}
+use Rattle.bh_spec.proofs.Reading.{bytes_of-append}
+use Rattle.bh_control.specs.declared.strings.Place.{Place}
+use Rattle.bh_control.specs.declared.strings.Place.TheVariants.{Method, Scheme, Authority, Path}
+use Rattle.bh_control.specs.declared.progress.Phase.{Phase}
+use Rattle.bh_control.specs.declared.progress.Phase.TheVariants.{Idle, Length, Bytes, Whole, Refused}
+use Rattle.bh_control.specs.Pieces.{IsText, CanBecome, IsNext}
+use Rattle.bh_control.specs.Control.{ControlOf, IsControlText}
+use Rattle.bh_control.specs.Phases.{Read, long_of, part_of, part_now, Holds, HasString, BehindPath, BehindAuthority, BehindScheme, BehindMethod, Rest, IsOpenAt, Steps, HasNone, HasSome}
+use Rattle.bh_control.specs.Stored.{no_strings}
+use Rattle.bh_control.specs.Reading.{IsReading}
+use Rattle.bh_control.specs.Sound.{Follows}
+use Rattle.bh_control.specs.Laws.{OneControl, OneNextPart}
+use Rattle.bh_control.proofs.Pieces.{one_next}
+use Rattle.bh_control.proofs.Steps.{read_at, control_is, part_length, part_byte}
+
+-- ---- the grammar of control data, and the strings of a reader
+
+text_of : (K : Bounds) (place : Place) (c : Control) (A B : Text → Type 0) (s : List ℕ) (t : Text) (h : HasString K place c A t) → h.string ≡ s → B h.rest
+    → (IsString (long_of place) (part_of place) s then B) t
+text_of K place c A B s t h e b =
+    let number = mark (long_of place) (vi (length h.string) h.width) in
+    let run = mark (part_of place) h.string in (
+      number ++ run,
+      h.rest,
+      subst (λ (x : List ℕ). IsString (long_of place) (part_of place) x (number ++ run)) e
+          (number, run, record { width = h.width; fits = h.fits; spelled = refl }, refl, refl),
+      b,
+      sym h.joined ∙ sym (append_assoc number run h.rest),
+    )
+
+path_of : (K : Bounds) (c : Control) (t : Text) → HasString K Path c BehindPath t → IsString parts.PathLength parts.Path c.path t
+path_of K c t h =
+    let number = mark parts.PathLength (vi (length h.string) h.width) in
+    let run = mark parts.Path h.string in
+    subst (λ (x : List ℕ). IsString parts.PathLength parts.Path x t) h.holds
+    (number, run, record { width = h.width; fits = h.fits; spelled = refl }, refl, sym h.joined ∙ ap (λ (x : Text). number ++ (run ++ x)) h.behind ∙ ap (λ (x : Text). number ++ x) (append-nil run))
+
+short : (K : Bounds) (a b : List ℕ) → length a ≡ length b → IsWithin K.part (length a) → IsWithin K.part (length b)
+short K a b e h = subst (IsWithin K.part) e h
+
+request_of : (K : Bounds) (c : Control) (t : Text) → HasString K Method c (BehindMethod K c) t → IsRequest K c t
+request_of K c t m =
+    let s = m.behind in
+    let a = s.behind in
+    let p = a.behind in
+    record {
+      scheme = s.string;
+      same_scheme = s.holds;
+      text = text_of K Method c (BehindMethod K c) (IsString parts.SchemeLength parts.Scheme s.string then IsString parts.AuthorityLength parts.Authority c.authority then IsString parts.PathLength parts.Path c.path)
+          c.method t m m.holds
+          (text_of K Scheme c (BehindScheme K c) (IsString parts.AuthorityLength parts.Authority c.authority then IsString parts.PathLength parts.Path c.path) s.string m.rest s refl
+          (text_of K Authority c (BehindAuthority K c) (IsString parts.PathLength parts.Path c.path) c.authority s.rest a a.holds (path_of K c a.rest p)));
+      method_within = short K m.string c.method (ap length m.holds) m.within;
+      scheme_within = short K s.string c.scheme (sym (length-map s.string _) ∙ ap length s.holds) s.within;
+      authority_within = short K a.string c.authority (ap length a.holds) a.within;
+      path_within = short K p.string c.path (ap length p.holds) p.within;
+    }
+
+string_from : (K : Bounds) (place : Place) (c : Control) (A : Text → Type 0) (s : List ℕ) (x y t : Text) → IsString (long_of place) (part_of place) s x → t ≡ x ++ y
+    → IsWithin K.part (length s) → Holds place c [] s → A y → HasString K place c A t
+string_from K place c A s x y t h e within holds a = record {
+  string = s;
+  width = h.2.width;
+  rest = y;
+  fits = h.2.fits;
+  within = within;
+  holds = holds;
+  behind = a;
+  joined =
+      let number = mark (long_of place) (vi (length s) h.2.width) in
+      let run = mark (part_of place) s in
+      sym (append_assoc number run y) ∙ sym (ap (λ (z : Text). z ++ y) (h.4 ∙ ap₂ (λ (u v : Text). u ++ v) h.2.spelled h.3)) ∙ sym e;
+}
+
+request_from : (K : Bounds) (c : Control) (t : Text) → IsRequest K c t → HasString K Method c (BehindMethod K c) t
+request_from K c t r =
+    let m = r.text in
+    let s = m.3 in
+    let a = s.3 in
+    string_from K Method c (BehindMethod K c) c.method m.0 m.1 t m.2 m.4 r.method_within refl
+    (string_from K Scheme c (BehindScheme K c) r.scheme s.0 s.1 m.1 s.2 s.4
+    (short K c.scheme r.scheme (sym (ap length r.same_scheme) ∙ length-map r.scheme _) r.scheme_within) r.same_scheme
+    (string_from K Authority c (BehindAuthority K c) c.authority a.0 a.1 s.1 a.2 a.4 r.authority_within refl
+    (string_from K Path c BehindPath c.path a.1 [] a.1 a.3 (sym (append-nil a.1)) r.path_within refl refl)))
+
+no_front : (front : Text) → bytes_of front ≡ [] → front ≡ []
+no_front [] e = refl
+no_front (x ∷ front) e = absurd cc
+
+pub follows_start : (K : Bounds) → Follows K (read_at (Length Method) [] no_strings) []
+follows_start K = record {
+  on = λ c t h. (h.0, record { front = []; bytes = refl; spelled = request_of K c t h.2 });
+  back = λ c t is f. (is, tt, request_from K c t (subst (λ (x : Text). IsRequest K c (x ++ t)) (no_front f.front f.bytes) f.spelled));
+}
+
+-- no control data begins another
+pub request_once : (K L : Bounds) (c d : Control) → Agree ⊥ (c ≡ d) (IsRequest K c) (IsRequest L d)
+request_once K L c d t u r s =
+    agree_then ⊥ (c.method ≡ d.method) (c ≡ d) (method c) (scheme r.scheme then authority c then path c) (method d) (scheme s.scheme then authority d then path d)
+    (agree_string parts.MethodLength parts.Method c.method d.method)
+    (λ m. agree_then ⊥ (r.scheme ≡ s.scheme) (c ≡ d) (scheme r.scheme) (authority c then path c) (scheme s.scheme) (authority d then path d)
+    (agree_string parts.SchemeLength parts.Scheme r.scheme s.scheme)
+    (λ k. agree_then ⊥ (c.authority ≡ d.authority) (c ≡ d) (authority c) (path c) (authority d) (path d)
+    (agree_string parts.AuthorityLength parts.Authority c.authority d.authority)
+    (λ a. agree_map ⊥ (c.path ≡ d.path) (c ≡ d) (path c) (path d)
+    (λ e. control_is c d m (sym r.same_scheme ∙ ap lower k ∙ s.same_scheme) a e)
+    (agree_string parts.PathLength parts.Path c.path d.path))))
+    t u r.text s.text
+  where
+    method : Control → Text → Type 0
+    method x v = IsString parts.MethodLength parts.Method x.method v
+
+    scheme : List ℕ → Text → Type 0
+    scheme x v = IsString parts.SchemeLength parts.Scheme x v
+
+    authority : Control → Text → Type 0
+    authority x v = IsString parts.AuthorityLength parts.Authority x.authority v
+
+    path : Control → Text → Type 0
+    path x v = IsString parts.PathLength parts.Path x.path v
+
+pub controls_once : (K L : Bounds) → Agree ⊥ (Unit {0}) (IsControlText K) (IsControlText L)
+controls_once K L t u r s = meets_map ⊥ (r.0 ≡ s.0) (Unit {0}) t u (λ e. tt) (request_once K L r.0 s.0 t u r.1.spelled s.1.spelled)
+
+-- ---- a byte more
+
+-- a text, cut before one of its bytes
+record Cut (t : Text) (kept : List ℕ) (byte : ℕ) (after : List ℕ) : Type 0 where
+  front : Text
+  part : Part
+  back : Text
+  whole : t ≡ front ++ ((part, byte) ∷ back)
+  bytes : bytes_of front ≡ kept
+  rest : bytes_of back ≡ after
+
+cut_later : (x : Part × ℕ) (t : Text) (k : ℕ) (kept : List ℕ) (byte : ℕ) (after : List ℕ) → x.1 ≡ k → Cut t kept byte after → Cut (x ∷ t) (k ∷ kept) byte after
+cut_later x t k kept byte after e c = record {
+  front = x ∷ c.front;
+  part = c.part;
+  back = c.back;
+  whole = ap (λ (y : Text). x ∷ y) c.whole;
+  bytes = ap₂ (λ (a : ℕ) (b : List ℕ). a ∷ b) e c.bytes;
+  rest = c.rest;
+}
+
+cut : (t : Text) (kept : List ℕ) (byte : ℕ) (after : List ℕ) → bytes_of t ≡ kept ++ (byte ∷ after) → Cut t kept byte after
+cut [] [] byte after e = absurd cc
+cut [] (k ∷ kept) byte after e = absurd cc
+cut (x ∷ t) [] byte after e =
+    let head : x.1 ≡ byte = cc in
+    let tail : bytes_of t ≡ after = cc in
+    record { front = []; part = x.0; back = t; whole = ap (λ (y : ℕ). let z : Part × ℕ = (x.0, y) in z ∷ t) head; bytes = refl; rest = tail }
+cut (x ∷ t) (k ∷ kept) byte after e =
+    let head : x.1 ≡ k = cc in
+    let tail : bytes_of t ≡ kept ++ (byte ∷ after) = cc in
+    cut_later x t k kept byte after head (cut t kept byte after tail)
+
+-- every text that completes what is open has one part first
+pub one_part : (K : Bounds) (most : ℕ) (phase : Phase) (begun : List ℕ) (d : Control) (byte : ℕ) → IsReading phase → IsOpenAt phase most (read_at phase begun d)
+    → (c : Control) (part : Part) (t : Text) → Rest K (read_at phase begun d) c ((part, byte) ∷ t) → part ≡ part_now phase
+one_part K most Idle begun d byte reading o c part t h = absurd reading
+one_part K most (Length place) begun d byte reading o c part t h = part_length K place begun d byte o.unfinished c part t h
+one_part K most (Bytes place zero) begun d byte reading o c part t h = absurd (omega (arith, o.some))
+one_part K most (Bytes place (suc left)) begun d byte reading o c part t h = part_byte K place left d byte c part t h
+one_part K most Whole begun d byte reading o c part t h = absurd reading
+one_part K most Refused begun d byte reading o c part t h = absurd reading
+
+-- the bytes of a text with one more
+snoc_bytes : (front : Text) (part : Part) (byte : ℕ) (kept : List ℕ) → bytes_of front ≡ kept → bytes_of (front ++ ((part, byte) ∷ [])) ≡ kept ++ byte ∷ []
+snoc_bytes front part byte kept e =
+    bytes_of-append front ((part, byte) ∷ []) ∙ ap (λ (x : List ℕ). x ++ byte ∷ []) e
+
+pub follows_step : (K : Bounds) (r s : Read) (byte : ℕ) (kept : List ℕ) → ((c : Control) (part : Part) (t : Text) → Rest K r c ((part, byte) ∷ t) → part ≡ part_now r.phase)
+    → Steps K r byte s → Follows K r kept → Follows K s (kept ++ byte ∷ [])
+follows_step K r s byte kept one steps f = record {
+  on = λ c t h.
+      let g = f.on c ((part_now r.phase, byte) ∷ t) (steps.back c t h) in
+      let last : Text = (part_now r.phase, byte) ∷ [] in (
+        g.0,
+        record {
+          front = g.1.front ++ last;
+          bytes = snoc_bytes g.1.front (part_now r.phase) byte kept g.1.bytes;
+          spelled = subst (IsRequest K c) (sym (append_assoc g.1.front last t)) g.1.spelled;
+        },
+      );
+  back = λ c t is g.
+      let x = cut g.front kept byte [] g.bytes in
+      let whole : g.front ++ t ≡ x.front ++ ((x.part, byte) ∷ t) =
+      ap (λ (y : Text). y ++ t) x.whole ∙ append_assoc x.front ((x.part, byte) ∷ x.back) t
+      ∙ ap (λ (y : Text). x.front ++ ((x.part, byte) ∷ (y ++ t))) (no_front x.back x.rest) in
+      let h = f.back c ((x.part, byte) ∷ t) is (record { front = x.front; bytes = x.bytes; spelled = subst (IsRequest K c) whole g.spelled }) in
+      steps.on c t (subst (λ (p : Part). Rest K r c ((p, byte) ∷ t)) (one c x.part t h) h);
+}
+
+-- ---- what is said of the bytes
+
+pub none_becomes : (K : Bounds) (r : Read) (byte : ℕ) (kept : List ℕ) → Follows K r kept → HasNone K r byte → CanBecome (IsControlText K) (kept ++ byte ∷ []) → ⊥
+none_becomes K r byte kept f none h =
+    let c = h.spelled.0 in
+    let x = cut h.text kept byte h.after (h.begins ∙ append_assoc kept (byte ∷ []) h.after) in
+    none c x.part x.back (f.back c ((x.part, byte) ∷ x.back) h.spelled.1.valid
+    (record { front = x.front; bytes = x.bytes; spelled = subst (IsRequest K c) x.whole h.spelled.1.spelled }))
+
+pub some_next : (K : Bounds) (r : Read) (byte : ℕ) (kept : List ℕ) → Follows K r kept → HasSome K r byte → IsNext (IsControlText K) kept (part_now r.phase)
+some_next K r byte kept f h =
+    let g = f.on h.control ((part_now r.phase, byte) ∷ h.text) h.rest in
+    record { before = g.1.front; byte = byte; after = h.text; spelled = (h.control, record { valid = g.0; spelled = g.1.spelled }); begins = g.1.bytes }
+
+pub some_becomes : (K : Bounds) (r : Read) (byte : ℕ) (kept : List ℕ) → Follows K r kept → HasSome K r byte → CanBecome (IsControlText K) (kept ++ byte ∷ [])
+some_becomes K r byte kept f h =
+    let part = part_now r.phase in
+    let g = f.on h.control ((part, byte) ∷ h.text) h.rest in
+    record {
+      text = g.1.front ++ ((part, byte) ∷ h.text);
+      after = bytes_of h.text;
+      spelled = (h.control, record { valid = g.0; spelled = g.1.spelled });
+      begins = bytes_of-append g.1.front ((part, byte) ∷ h.text) ∙ ap (λ (x : List ℕ). x ++ (byte ∷ bytes_of h.text)) g.1.bytes ∙ sym (append_assoc kept (byte ∷ []) (bytes_of h.text));
+    }
+
+pub whole_text : (K : Bounds) (begun kept : List ℕ) (d : Control) → IsControl d → Follows K (read_at Whole begun d) kept → IsText (ControlOf K d) kept
+whole_text K begun kept d is f =
+    let g = f.on d [] (is, refl, refl) in
+    record {
+      text = g.1.front ++ [];
+      spelled = record { valid = g.0; spelled = g.1.spelled };
+      same = ap bytes_of (append-nil g.1.front) ∙ g.1.bytes;
+    }
+
+-- ---- the laws
+
+pub one_control : OneControl
+one_control K L c d bytes g h =
+    meets_one ⊥ (c ≡ d) g.text h.text (request_once K L c d g.text h.text g.spelled.spelled h.spelled.spelled) (g.same ∙ sym h.same)
+
+pub one_next_part : OneNextPart
+one_next_part K L bytes p q g h = one_next (Unit {0}) (IsControlText K) (IsControlText L) (controls_once K L) bytes p q g h

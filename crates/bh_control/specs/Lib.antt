@@ -1,0 +1,9 @@
+pub mod Numbers
+pub mod Pieces
+pub mod Statuses
+pub mod Control
+pub mod Phases
+pub mod Stored
+pub mod Reading
+pub mod Sound
+pub mod Laws

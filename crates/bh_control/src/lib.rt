@@ -1,0 +1,19 @@
+//! Control data of requests and statuses of responses (RFC 9292, section 3), read from pieces of any length.
+//!
+//! A reader refuses the first byte after which nothing that continues the bytes is control data, or a status, within the
+//! limits: `Limit` where something without limits would still be, and `Dead` where nothing would.
+#![tactic(auto)]
+
+mod control;
+mod laws;
+mod numbers;
+mod progress;
+mod status;
+mod strings;
+
+pub use control::{ControlReader, ControlStep};
+pub use laws::{one_control, one_next_part};
+pub use status::{StatusReader, StatusStep};
+
+#[cfg(test)]
+mod tests;
