@@ -1,8 +1,9 @@
 //! The control data of a request.
 ghost use Rattle.std.specs.Prelude.{◌≡◌, ◌↔◌, ◌≤◌, ◌+◌, ◌*◌, ℕ, [], Some, IfOk, length};
 ghost use Rattle.bh_model.specs.Values.{control_lent};
-ghost use Rattle.bh_control.specs.declared.control.ControlStep.{ControlStep};
-ghost use Rattle.bh_control.specs.Pieces.{IsText, IsNext};
+ghost use Rattle.bh_spec.specs.declared.Part.{Part};
+ghost use Rattle.bh_spec.specs.Bounds.{no_bounds};
+ghost use Rattle.bh_control.specs.Pieces.{IsText, IsNext, Ends, GoesOn, IsDead, IsLimit};
 ghost use Rattle.bh_control.specs.Stored.{no_strings};
 ghost use Rattle.bh_control.specs.Control.{ControlOf, IsControlText, reading, idle, AnswersControl, control_kept, stage_behind};
 
@@ -95,8 +96,15 @@ impl ControlReader {
     /// refused.
     pub fn push(&mut self, piece: &[u8]) -> ControlStep
         requires { self.old.stage ≡ reading }
-        ensures exactly { (step : ControlStep)
-            → (result ≡ step) ↔ AnswersControl self.old.limits self.old.kept piece.now step }
+        ensures need { (result ≡ ControlStep.Need) ↔ GoesOn (IsControlText self.old.limits) self.old.kept piece.now }
+        ensures whole { (taken : ℕ)
+            → (result ≡ ControlStep.Whole taken) ↔ Ends (IsControlText self.old.limits) self.old.kept piece.now taken }
+        ensures dead { (offset : ℕ) (part : Part)
+            → (result ≡ ControlStep.Dead offset part)
+            ↔ IsDead (IsControlText self.old.limits) (IsControlText no_bounds) self.old.kept piece.now offset part }
+        ensures limit { (offset : ℕ) (part : Part)
+            → (result ≡ ControlStep.Limit offset part)
+            ↔ IsLimit (IsControlText self.old.limits) (IsControlText no_bounds) self.old.kept piece.now offset part }
 
         // The same by cases, as an arm of a caller's `match` reads it.
         ensures shows { AnswersControl self.old.limits self.old.kept piece.now result }

@@ -1,8 +1,9 @@
 //! One status at a time.
-ghost use Rattle.std.specs.Prelude.{◌≡◌, ◌↔◌, [], Some};
+ghost use Rattle.std.specs.Prelude.{◌≡◌, ◌↔◌, ℕ, [], Some};
 ghost use Rattle.bh_control.specs.Numbers.{least_status};
-ghost use Rattle.bh_control.specs.Statuses.{AnswersStatus, status_kept};
-ghost use Rattle.bh_control.specs.declared.status.StatusStep.{StatusStep};
+ghost use Rattle.bh_control.specs.Statuses.{StatusOf, IsStatusText, AnswersStatus, status_kept};
+ghost use Rattle.bh_spec.specs.declared.Part.TheVariants as parts;
+ghost use Rattle.bh_control.specs.Pieces.{Ends, GoesOn, IsDead, IsLimit};
 
 use crate::numbers::numbers;
 use bh_varint::{Partial, Step};
@@ -68,8 +69,16 @@ impl StatusReader {
     /// the same as at its first byte. Behind every answer but `Need` no status is begun.
     pub fn push(&mut self, piece: &[u8], interims_left: u64) -> StatusStep
         requires { (self.old.bytes ≡ [] → ⊥) → interims_left ≡ self.old.left }
-        ensures exactly { (step : StatusStep)
-            → (result ≡ step) ↔ AnswersStatus interims_left self.old.bytes piece.now step }
+        ensures need { (result ≡ StatusStep.Need) ↔ GoesOn (IsStatusText (Some interims_left)) self.old.bytes piece.now }
+        ensures whole { (taken status : ℕ)
+            → (result ≡ StatusStep.Whole taken status)
+            ↔ Ends (StatusOf (Some interims_left) status) self.old.bytes piece.now taken }
+        ensures dead { (offset : ℕ)
+            → (result ≡ StatusStep.Dead offset)
+            ↔ IsDead (IsStatusText (Some interims_left)) (IsStatusText None) self.old.bytes piece.now offset parts.Status }
+        ensures limit { (offset : ℕ)
+            → (result ≡ StatusStep.Limit offset)
+            ↔ IsLimit (IsStatusText (Some interims_left)) (IsStatusText None) self.old.bytes piece.now offset parts.Status }
 
         // The same by cases, as an arm of a caller's `match` reads it.
         ensures shows { AnswersStatus interims_left self.old.bytes piece.now result }

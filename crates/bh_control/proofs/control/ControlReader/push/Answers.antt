@@ -44,8 +44,12 @@ returns-then-is_whole c =
     let ended = c.is_whole.ensures.0 c.if-is_whole.true in
     let said = subst (λ (L : Bounds). AnswersControl L c.args.self.now.kept c.args.piece.now (answer.Whole (c.loop-i.i + 1))) c.loop-i.invariant.limits
     (whole_said r.limits (vec_capacity c.push_reserved.new.self) c.args.self.now.kept c.args.piece.now c.push_reserved.new.self.items c.step.new.self (c.loop-i.i + 1) kept (omega arith) sound ended) in
+    let only = exactly c.args.self.now.limits c.args.self.now.kept c.args.piece.now (answer.Whole (c.loop-i.i + 1)) said in
     record {
-      exactly = exactly c.args.self.now.limits c.args.self.now.kept c.args.piece.now (answer.Whole (c.loop-i.i + 1)) said;
+      need = only answer.Need;
+      whole = λ taken. only (answer.Whole taken);
+      dead = λ offset part. only (answer.Dead offset part);
+      limit = λ offset part. only (answer.Limit offset part);
       shows = said;
       values = λ taken e.
           subst (λ (L : Bounds). IsText (ControlOf L (control_in c.step.new.self.strings)) c.push_reserved.new.self.items) c.loop-i.invariant.limits
@@ -69,8 +73,12 @@ returns-in-Dead c =
     let said = subst (λ (part : Part). AnswersControl c.args.self.now.limits c.args.self.now.kept c.args.piece.now (answer.Dead c.loop-i.i part)) (sym c.next_part-part.ensures)
     (subst (λ (L : Bounds). AnswersControl L c.args.self.now.kept c.args.piece.now (answer.Dead c.loop-i.i (part_now r.progress.phase))) c.loop-i.invariant.limits
     (dead_said r.limits (vec_capacity r.kept) c.args.self.now.kept c.args.piece.now r.kept.items r.progress c.loop-i.i at c.in-Dead.ensures.says)) in
+    let only = exactly c.args.self.now.limits c.args.self.now.kept c.args.piece.now (answer.Dead c.loop-i.i c.next_part-part.result) said in
     record {
-      exactly = exactly c.args.self.now.limits c.args.self.now.kept c.args.piece.now (answer.Dead c.loop-i.i c.next_part-part.result) said;
+      need = only answer.Need;
+      whole = λ taken. only (answer.Whole taken);
+      dead = λ offset part. only (answer.Dead offset part);
+      limit = λ offset part. only (answer.Limit offset part);
       shows = said;
       values = λ taken e. absurd cc;
       kept = c.loop-i.invariant.so_far;
@@ -92,8 +100,12 @@ returns-in-Limit c =
     let said = subst (λ (part : Part). AnswersControl c.args.self.now.limits c.args.self.now.kept c.args.piece.now (answer.Limit c.loop-i.i part)) (sym c.next_part-part.ensures)
     (subst (λ (L : Bounds). AnswersControl L c.args.self.now.kept c.args.piece.now (answer.Limit c.loop-i.i (part_now r.progress.phase))) c.loop-i.invariant.limits
     (limit_said r.limits (vec_capacity r.kept) c.args.self.now.kept c.args.piece.now r.kept.items r.progress c.loop-i.i at c.in-Limit.ensures.says.0 c.in-Limit.ensures.says.1)) in
+    let only = exactly c.args.self.now.limits c.args.self.now.kept c.args.piece.now (answer.Limit c.loop-i.i c.next_part-part.result) said in
     record {
-      exactly = exactly c.args.self.now.limits c.args.self.now.kept c.args.piece.now (answer.Limit c.loop-i.i c.next_part-part.result) said;
+      need = only answer.Need;
+      whole = λ taken. only (answer.Whole taken);
+      dead = λ offset part. only (answer.Dead offset part);
+      limit = λ offset part. only (answer.Limit offset part);
       shows = said;
       values = λ taken e. absurd cc;
       kept = c.loop-i.invariant.so_far;
@@ -120,8 +132,12 @@ returns c =
     let all = all_taken r.kept.items c.args.self.now.kept c.args.piece.now c.loop-i.i c.loop-i.invariant.so_far (omega arith) (omega arith) in
     let said = subst (λ (L : Bounds). AnswersControl L c.args.self.now.kept c.args.piece.now answer.Need) c.loop-i.invariant.limits
     (need_said r.limits (vec_capacity r.kept) c.args.self.now.kept c.args.piece.now r.kept.items r.progress all c.loop-i.invariant.sound c.loop-i.invariant.is_reading) in
+    let only = exactly c.args.self.now.limits c.args.self.now.kept c.args.piece.now answer.Need said in
     record {
-      exactly = exactly c.args.self.now.limits c.args.self.now.kept c.args.piece.now answer.Need said;
+      need = only answer.Need;
+      whole = λ taken. only (answer.Whole taken);
+      dead = λ offset part. only (answer.Dead offset part);
+      limit = λ offset part. only (answer.Limit offset part);
       shows = said;
       values = λ taken e. absurd cc;
       kept = all;

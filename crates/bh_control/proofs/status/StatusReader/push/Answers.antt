@@ -64,8 +64,12 @@ returns-in-Value c =
     } in
     let said = whole_said c.args.interims_left c.args.self.now.bytes c.args.piece.now c.loop-i.self-inside.partial c.loop-i.i c.in-Value.value c.in-Value.width at
     (subst (λ (s : Allowed). IsWhole s (c.loop-i.self-inside.partial ++ get_or c.args.piece.now c.loop-i.i 0 ∷ []) c.in-Value.value c.in-Value.width) e c.in-Value.ensures.shows) in
+    let only = exactly c.args.interims_left c.args.self.now.bytes c.args.piece.now (answer.Whole (c.loop-i.i + 1) c.in-Value.value) said in
     record {
-      exactly = exactly c.args.interims_left c.args.self.now.bytes c.args.piece.now (answer.Whole (c.loop-i.i + 1) c.in-Value.value) said;
+      need = only answer.Need;
+      whole = λ taken status. only (answer.Whole taken status);
+      dead = λ offset. only (answer.Dead offset);
+      limit = λ offset. only (answer.Limit offset);
       shows = said;
       kept = c.in-Value.ensures.kept;
       left = λ n. absurd cc;
@@ -83,8 +87,12 @@ returns-in-Dead c =
     let said = limit_said c.args.interims_left c.args.self.now.bytes c.args.piece.now c.loop-i.self-inside.partial c.loop-i.i at
     (subst (λ (s : Allowed). SomeBegins s (c.loop-i.self-inside.partial ++ get_or c.args.piece.now c.loop-i.i 0 ∷ []) → ⊥) e c.in-Dead.ensures.shows)
     (subst (λ (s : Allowed). SomeBegins s (c.loop-i.self-inside.partial ++ get_or c.args.piece.now c.loop-i.i 0 ∷ [])) c.numbers-anyway.ensures (c.alive-known.ensures.0 c.if-known.true)) in
+    let only = exactly c.args.interims_left c.args.self.now.bytes c.args.piece.now (answer.Limit c.loop-i.i) said in
     record {
-      exactly = exactly c.args.interims_left c.args.self.now.bytes c.args.piece.now (answer.Limit c.loop-i.i) said;
+      need = only answer.Need;
+      whole = λ taken status. only (answer.Whole taken status);
+      dead = λ offset. only (answer.Dead offset);
+      limit = λ offset. only (answer.Limit offset);
       shows = said;
       kept = c.in-Dead.ensures.kept;
       left = λ n. absurd cc;
@@ -102,8 +110,12 @@ returns-in-Dead-2 c =
     let said = dead_said c.args.interims_left c.args.self.now.bytes c.args.piece.now c.loop-i.self-inside.partial c.loop-i.i at
     (subst (λ (s : Allowed). SomeBegins s (c.loop-i.self-inside.partial ++ get_or c.args.piece.now c.loop-i.i 0 ∷ []) → ⊥) e c.in-Dead-2.ensures.shows)
     (λ s. absurd (cc (c.alive-known.ensures.1 (subst (λ (x : Allowed). SomeBegins x (c.loop-i.self-inside.partial ++ get_or c.args.piece.now c.loop-i.i 0 ∷ [])) (sym c.numbers-anyway.ensures) s), c.if-known.false))) in
+    let only = exactly c.args.interims_left c.args.self.now.bytes c.args.piece.now (answer.Dead c.loop-i.i) said in
     record {
-      exactly = exactly c.args.interims_left c.args.self.now.bytes c.args.piece.now (answer.Dead c.loop-i.i) said;
+      need = only answer.Need;
+      whole = λ taken status. only (answer.Whole taken status);
+      dead = λ offset. only (answer.Dead offset);
+      limit = λ offset. only (answer.Limit offset);
       shows = said;
       kept = c.in-Dead-2.ensures.kept;
       left = λ n. absurd cc;
@@ -113,8 +125,12 @@ pub returns : goal.returns
 returns c =
     let all = all_taken c.loop-i.self-inside.partial c.args.self.now.bytes c.args.piece.now c.loop-i.i c.loop-i.invariant.so_far (omega arith) (omega arith) in
     let said = need_said c.args.interims_left c.args.self.now.bytes c.args.piece.now c.loop-i.self-inside.partial all c.loop-i.invariant.begins c.loop-i.invariant.unfinished in
+    let only = exactly c.args.interims_left c.args.self.now.bytes c.args.piece.now answer.Need said in
     record {
-      exactly = exactly c.args.interims_left c.args.self.now.bytes c.args.piece.now answer.Need said;
+      need = only answer.Need;
+      whole = λ taken status. only (answer.Whole taken status);
+      dead = λ offset. only (answer.Dead offset);
+      limit = λ offset. only (answer.Limit offset);
       shows = said;
       kept = all;
       left = λ n. c.loop-i.invariant.left;

@@ -1,0 +1,15 @@
+pub mod Numbers
+pub mod Tracking
+pub mod Filling
+pub mod Strings
+pub mod Lines
+pub mod Counting
+pub mod Memory
+pub mod States
+pub mod Changes
+pub mod Moves
+pub mod Bytes
+pub mod ControlNames
+pub mod Beginning
+pub mod Exactly
+pub mod NextBytes

@@ -1,0 +1,180 @@
+-- Sections of a place have one form, and a reader that knows what may follow knows what a byte makes of it.
+use Rattle.std.proofs.Common.{◌≡◌, ℕ, List, [], ◌∷◌, ◌++◌, All, refl, sym, ap, ap₂, subst, ◌∙◌, append_assoc, append-nil}
+use Rattle.bh_spec.specs.declared.Form.{Form}
+use Rattle.bh_spec.specs.declared.Part.{Part}
+use Rattle.bh_spec.specs.Bounds.{Bounds}
+use Rattle.bh_spec.specs.Messages.{Field}
+use Rattle.bh_spec.specs.Texts.{Text, bytes_of}
+use Rattle.bh_spec.proofs.Meeting.{Meets, meets_next, meets_front, meets_one}
+use Rattle.bh_spec.proofs.Sections.{IsNamed, section_agrees}
+use Rattle.bh_spec.proofs.Whole.{headers_named, trailers_named}
+use Rattle.bh_spec.proofs.Reading.{bytes_of-append}
+use Rattle.bh_model.specs.declared.field.Place.{Place}
+use Rattle.bh_model.specs.declared.field.Place.TheVariants.{Header, Trailer}
+use Rattle.bh_model.specs.Rules.{AreLines}
+use Rattle.bh_fields.specs.Sections.{SectionOf, IsSectionOf, SectionBegins, IsNextPart}
+use Rattle.bh_fields.specs.Tracks.{Tracked}
+use Rattle.bh_fields.proofs.Numbers.{cancel}
+
+pub lines_named : (place : Place) (fields : List Field) → AreLines place fields → All IsNamed fields
+lines_named Header fields h = headers_named fields h
+lines_named Trailer fields h = trailers_named fields h
+
+pub sections_meet : (K L : Bounds) (form : Form) (place : Place) (fs gs : List Field) (t u : Text) → SectionOf K form place fs t → SectionOf L form place gs u
+    → Meets ⊥ (fs ≡ gs) t u
+sections_meet K L form place fs gs t u a b =
+    section_agrees K L form fs gs (lines_named place fs a.1) (lines_named place gs b.1) t u a.0 b.0
+
+-- the part of the next byte, from one text that has it
+pub next_from : (L : Bounds) (form : Form) (place : Place) (fields : List Field) (before : Text) (part : Part) (byte : ℕ) (after : Text) (bytes : List ℕ)
+    → SectionOf L form place fields (before ++ ((part, byte) ∷ after)) → bytes_of before ≡ bytes → IsNextPart L form place bytes part
+next_from L form place fields before part byte after bytes h e = record {
+  fields = fields;
+  before = before;
+  byte = byte;
+  after = after;
+  spelled = h;
+  begins = e;
+  each = λ K others x p b y k f.
+      meets_next ⊥ (others ≡ fields) x before (p, b) (part, byte) y after
+      (sections_meet K L form place others fields (x ++ ((p, b) ∷ y)) (before ++ ((part, byte) ∷ after)) k h) (f ∙ sym e);
+}
+
+pub tracked_next : (form : Form) (place : Place) (bytes : List ℕ) (R : Bounds → List Field → Text → Type 0) → Tracked form place bytes R
+    → (L : Bounds) (part : Part) (fields : List Field) (byte : ℕ) (t : Text) → R L fields ((part, byte) ∷ t) → IsNextPart L form place bytes part
+tracked_next form place bytes R T L part fields byte t r =
+    next_from L form place fields T.text part byte t bytes (T.back L fields ((part, byte) ∷ t) r) T.same
+
+-- what follows begins with the byte, and it has the part
+record Follows (R : Bounds → List Field → Text → Type 0) (K : Bounds) (fields : List Field) (text u : Text) (part : Part) (byte : ℕ) : Type 0 where
+  rest : Text
+  whole : u ≡ text ++ ((part, byte) ∷ rest)
+  follows : R K fields ((part, byte) ∷ rest)
+
+follows : (form : Form) (place : Place) (bytes : List ℕ) (R : Bounds → List Field → Text → Type 0) (T : Tracked form place bytes R)
+    → (L : Bounds) (part : Part) → IsNextPart L form place bytes part
+    → (K : Bounds) (fields : List Field) (u : Text) (byte : ℕ) (x : List ℕ) → SectionOf K form place fields u → bytes_of u ≡ (bytes ++ byte ∷ []) ++ x
+    → Follows R K fields T.text u part byte
+follows form place bytes R T L part next K fields u byte x h e =
+    let on : bytes_of u ≡ bytes ++ (byte ∷ x) = e ∙ append_assoc bytes (byte ∷ []) x in
+    let f = T.forth K fields u (byte ∷ x) h on in
+    let both : bytes_of T.text ++ bytes_of f.0 ≡ bytes_of T.text ++ (byte ∷ x) =
+    sym (bytes_of-append T.text f.0) ∙ sym (ap bytes_of f.1) ∙ on ∙ ap (λ (z : List ℕ). z ++ (byte ∷ x)) (sym T.same) in
+    at f.0 f.1 f.2 (cancel (bytes_of T.text) (bytes_of f.0) (byte ∷ x) both)
+  where
+    at : (t : Text) → u ≡ T.text ++ t → R K fields t → bytes_of t ≡ byte ∷ x → Follows R K fields T.text u part byte
+    at [] g r b = absurd cc
+    at (a ∷ t) g r b =
+        let value : a.1 ≡ byte = cc in
+        let spelled : SectionOf K form place fields (T.text ++ ((a.0, a.1) ∷ t)) = subst (SectionOf K form place fields) g h in
+        let named : a.0 ≡ part = next.each K fields T.text a.0 a.1 t spelled T.same in
+        let pair : a ≡ (part, byte) = ap₂ (λ (p : Part) (n : ℕ). let z : Part × ℕ = (p, n) in z) named value in
+        record {
+          rest = t;
+          whole = g ∙ ap (λ (z : Part × ℕ). T.text ++ (z ∷ t)) pair;
+          follows = subst (λ (z : Part × ℕ). R K fields (z ∷ t)) pair r;
+        }
+
+-- a byte that is taken
+pub tracked_step : (form : Form) (place : Place) (bytes : List ℕ) (R S : Bounds → List Field → Text → Type 0) → Tracked form place bytes R
+    → (L : Bounds) (part : Part) (byte : ℕ) → IsNextPart L form place bytes part
+    → ((K : Bounds) (fields : List Field) (t : Text) → R K fields ((part, byte) ∷ t) → S K fields t)
+    → ((K : Bounds) (fields : List Field) (t : Text) → S K fields t → R K fields ((part, byte) ∷ t))
+    → Tracked form place (bytes ++ byte ∷ []) S
+tracked_step form place bytes R S T L part byte next forth back = record {
+  text = T.text ++ ((part, byte) ∷ []);
+  same = bytes_of-append T.text ((part, byte) ∷ []) ∙ ap (λ (z : List ℕ). z ++ byte ∷ []) T.same;
+  forth = λ K fields u x h e.
+      let f = follows form place bytes R T L part next K fields u byte x h e in
+      (f.rest, f.whole ∙ sym (append_assoc T.text ((part, byte) ∷ []) f.rest), forth K fields f.rest f.follows);
+  back = λ K fields t s. subst (SectionOf K form place fields) (sym (append_assoc T.text ((part, byte) ∷ []) t)) (T.back K fields ((part, byte) ∷ t) (back K fields t s));
+}
+
+-- where what may follow is said in other words
+pub tracked_same : (form : Form) (place : Place) (bytes : List ℕ) (R S : Bounds → List Field → Text → Type 0) → Tracked form place bytes R
+    → ((K : Bounds) (fields : List Field) (t : Text) → R K fields t → S K fields t)
+    → ((K : Bounds) (fields : List Field) (t : Text) → S K fields t → R K fields t)
+    → Tracked form place bytes S
+tracked_same form place bytes R S T forth back = record {
+  text = T.text;
+  same = T.same;
+  forth = λ K fields u x h e. let f = T.forth K fields u x h e in (f.0, f.1, forth K fields f.0 f.2);
+  back = λ K fields t s. T.back K fields t (back K fields t s);
+}
+
+-- a byte that nothing continues
+pub tracked_dead : (form : Form) (place : Place) (bytes : List ℕ) (R : Bounds → List Field → Text → Type 0) → Tracked form place bytes R
+    → (L : Bounds) (part : Part) (byte : ℕ) → IsNextPart L form place bytes part
+    → (K : Bounds) → ((fields : List Field) (t : Text) → R K fields ((part, byte) ∷ t) → ⊥) → SectionBegins K form place (bytes ++ byte ∷ []) → ⊥
+tracked_dead form place bytes R T L part byte next K none h =
+    let f = follows form place bytes R T L part next K h.fields h.text byte h.after h.spelled h.begins in
+    none h.fields f.rest f.follows
+
+-- a byte that something continues
+pub tracked_alive : (form : Form) (place : Place) (bytes : List ℕ) (R : Bounds → List Field → Text → Type 0) → Tracked form place bytes R
+    → (K : Bounds) (part : Part) (byte : ℕ) (fields : List Field) (t : Text) → R K fields ((part, byte) ∷ t) → SectionBegins K form place (bytes ++ byte ∷ [])
+tracked_alive form place bytes R T K part byte fields t r = record {
+  fields = fields;
+  text = T.text ++ ((part, byte) ∷ t);
+  after = bytes_of t;
+  spelled = T.back K fields ((part, byte) ∷ t) r;
+  begins = bytes_of-append T.text ((part, byte) ∷ t) ∙ ap (λ (z : List ℕ). z ++ (byte ∷ bytes_of t)) T.same ∙ sym (append_assoc bytes (byte ∷ []) (bytes_of t));
+}
+
+pub tracked_whole : (form : Form) (place : Place) (bytes : List ℕ) (R : Bounds → List Field → Text → Type 0) → Tracked form place bytes R
+    → (L : Bounds) (fields : List Field) → R L fields [] → IsSectionOf L form place fields bytes
+tracked_whole form place bytes R T L fields r = record {
+  text = T.text;
+  spelled = subst (SectionOf L form place fields) (append-nil T.text) (T.back L fields [] r);
+  same = T.same;
+}
+
+-- ---- answers exclude each other
+
+-- no section begins another
+pub section_alone : (K L : Bounds) (form : Form) (place : Place) (fields : List Field) (bytes x : List ℕ) → IsSectionOf K form place fields bytes
+    → SectionBegins L form place (bytes ++ x) → x ≡ []
+section_alone K L form place fields bytes x a b =
+    let e : bytes_of a.text ++ (x ++ b.after) ≡ bytes_of b.text ++ [] =
+    ap (λ (z : List ℕ). z ++ (x ++ b.after)) a.same ∙ sym (append_assoc bytes x b.after) ∙ sym b.begins ∙ sym (append-nil (bytes_of b.text)) in
+    let front = meets_front (fields ≡ b.fields) a.text b.text (x ++ b.after) [] (sections_meet K L form place fields b.fields a.text b.text a.spelled b.spelled) e in
+    none x b.after front.2
+  where
+    none : (x y : List ℕ) → x ++ y ≡ [] → x ≡ []
+    none [] y e = refl
+    none (c ∷ x) y e = absurd cc
+
+pub section_once : (K L : Bounds) (form : Form) (place : Place) (fs gs : List Field) (bytes : List ℕ) → IsSectionOf K form place fs bytes
+    → IsSectionOf L form place gs bytes → fs ≡ gs
+section_once K L form place fs gs bytes a b =
+    meets_one ⊥ (fs ≡ gs) a.text b.text (sections_meet K L form place fs gs a.text b.text a.spelled b.spelled) (a.same ∙ sym b.same)
+
+-- bytes with a next part are no section
+pub next_unfinished : (K L : Bounds) (form : Form) (place : Place) (fields : List Field) (bytes : List ℕ) (part : Part) → IsNextPart L form place bytes part
+    → IsSectionOf K form place fields bytes → ⊥
+next_unfinished K L form place fields bytes part next h =
+    let e : bytes_of h.text ++ (next.byte ∷ bytes_of next.after) ≡ bytes_of (next.before ++ ((part, next.byte) ∷ next.after)) ++ [] =
+    ap (λ (z : List ℕ). z ++ (next.byte ∷ bytes_of next.after)) (h.same ∙ sym next.begins)
+    ∙ sym (bytes_of-append next.before ((part, next.byte) ∷ next.after)) ∙ sym (append-nil (bytes_of (next.before ++ ((part, next.byte) ∷ next.after)))) in
+    let front = meets_front (fields ≡ next.fields) h.text (next.before ++ ((part, next.byte) ∷ next.after)) (next.byte ∷ bytes_of next.after) []
+    (sections_meet K L form place fields next.fields h.text (next.before ++ ((part, next.byte) ∷ next.after)) h.spelled next.spelled) e in
+    some front.2
+  where
+    some : next.byte ∷ bytes_of next.after ≡ [] → ⊥
+    some e = absurd cc
+
+-- bytes with a next part begin a section
+pub next_begins : (L : Bounds) (form : Form) (place : Place) (bytes : List ℕ) (part : Part) → IsNextPart L form place bytes part → SectionBegins L form place bytes
+next_begins L form place bytes part next = record {
+  fields = next.fields;
+  text = next.before ++ ((part, next.byte) ∷ next.after);
+  after = next.byte ∷ bytes_of next.after;
+  spelled = next.spelled;
+  begins = bytes_of-append next.before ((part, next.byte) ∷ next.after) ∙ ap (λ (z : List ℕ). z ++ (next.byte ∷ bytes_of next.after)) next.begins;
+}
+
+pub begins_shorter : (L : Bounds) (form : Form) (place : Place) (bytes x : List ℕ) → SectionBegins L form place (bytes ++ x) → SectionBegins L form place bytes
+begins_shorter L form place bytes x h = record { fields = h.fields; text = h.text; after = x ++ h.after; spelled = h.spelled; begins = h.begins ∙ append_assoc bytes x h.after }
+
+pub next_once : (K L : Bounds) (form : Form) (place : Place) (bytes : List ℕ) (p q : Part) → IsNextPart K form place bytes p → IsNextPart L form place bytes q → p ≡ q
+next_once K L form place bytes p q a b = b.each K a.fields a.before p a.byte a.after a.spelled a.begins

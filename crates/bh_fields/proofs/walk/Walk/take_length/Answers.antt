@@ -1,0 +1,58 @@
+use Rattle.std.proofs.Common.{◌≡◌, ◌++◌, ◌∷◌, [], ℕ, List, refl, sym, ap, subst, ◌∙◌, vec_capacity}
+use Rattle.bh_spec.specs.declared.Allowed.{Allowed}
+use Rattle.bh_spec.specs.Integers.{SomeBegins}
+use Rattle.bh_varint.specs.Step.{IsWhole, GoesOn}
+use Rattle.bh_fields.specs.declared.walk.Judged.TheVariants as judged
+use Rattle.bh_fields.specs.declared.walk.Phase.{Phase}
+use Rattle.bh_fields.specs.Sets.{lines_set}
+use Rattle.bh_fields.specs.Points.{Point, point_of, most_of, NextState, Outcome}
+use Rattle.bh_fields.proofs.Moves.{length_more, length_whole, length_limit, length_dead}
+use Rattle.bh_fields.proofs.Changes.{with_number, of_total, moved, most_is}
+use Rattle.bh_fields.proofs.walk.Walk.take_length.Goals as goal
+
+pub next_line-requires-clause-state : goal.next_line-requires-clause-state
+next_line-requires-clause-state c =
+    let p : Point = point_of c.args.self.now in
+    let set : c.length_set-within.result ≡ lines_set (most_of p.limits) = c.length_set-within.ensures ∙ ap lines_set (most_is p.limits c.section.result c.section.ensures.value) in
+    let k = c.push_reserved-in-Value.new.self in
+    subst (λ (x : List ℕ). NextState (of_total c.in-Value.value (with_number x k.items (vec_capacity k) p))) (sym c.in-Value.ensures.kept)
+    (length_whole p c.args.byte c.in-Value.value c.in-Value.width k.items (vec_capacity k) c.requires.sized c.requires.state
+    (subst (λ (s : Allowed). IsWhole s (p.number ++ c.args.byte ∷ []) c.in-Value.value c.in-Value.width) set c.in-Value.ensures.judges)
+    c.push_reserved-in-Value.ensures.items)
+
+pub returns-in-More : goal.returns-in-More
+returns-in-More c =
+    let p : Point = point_of c.args.self.now in
+    let set : c.length_set-within.result ≡ lines_set (most_of p.limits) = c.length_set-within.ensures ∙ ap lines_set (most_is p.limits c.section.result c.section.ensures.value) in
+    let k = c.push_reserved.new.self in
+    subst (λ (phase : Phase). Outcome judged.More p c.args.byte phase (with_number c.judge.new.number k.items (vec_capacity k) p)) (sym c.requires.phase)
+    (length_more p c.args.byte c.judge.new.number k.items (vec_capacity k) c.requires.sized c.requires.state
+    (subst (λ (s : Allowed). GoesOn s (p.number ++ c.args.byte ∷ [])) set c.in-More.ensures.judges)
+    c.in-More.ensures.kept c.push_reserved.ensures.items c.push_reserved.ensures.capacity)
+
+pub returns-in-Value : goal.returns-in-Value
+returns-in-Value c =
+    let p : Point = point_of c.args.self.now in
+    let k = c.push_reserved-in-Value.new.self in
+    moved c.next_line.result p (of_total c.in-Value.value (with_number c.judge.new.number k.items (vec_capacity k) p)) c.args.byte c.next_line.new.self.phase (point_of c.next_line.new.self)
+    (record { limits = refl; form = refl; place = refl }) c.push_reserved-in-Value.ensures.items c.next_line.ensures
+
+pub returns-in-Limit : goal.returns-in-Limit
+returns-in-Limit c =
+    let p : Point = point_of c.args.self.now in
+    let set : c.length_set-within.result ≡ lines_set (most_of p.limits) = c.length_set-within.ensures ∙ ap lines_set (most_is p.limits c.section.result c.section.ensures.value) in
+    let bytes : List ℕ = p.number ++ c.args.byte ∷ [] in
+    subst (λ (x : List ℕ). Outcome judged.Limit p c.args.byte c.args.self.now.phase (with_number x p.kept p.capacity p)) (sym c.in-Limit.ensures.kept)
+    (length_limit p c.args.byte c.args.self.now.phase c.requires.sized c.requires.state
+    (λ s. c.in-Limit.ensures.judges.0 (subst (λ (x : Allowed). SomeBegins x bytes) (sym set) s))
+    (subst (λ (x : Allowed). SomeBegins x bytes) c.length_set-free.ensures c.in-Limit.ensures.judges.1))
+
+pub returns-in-Dead : goal.returns-in-Dead
+returns-in-Dead c =
+    let p : Point = point_of c.args.self.now in
+    let set : c.length_set-within.result ≡ lines_set (most_of p.limits) = c.length_set-within.ensures ∙ ap lines_set (most_is p.limits c.section.result c.section.ensures.value) in
+    let bytes : List ℕ = p.number ++ c.args.byte ∷ [] in
+    subst (λ (x : List ℕ). Outcome judged.Dead p c.args.byte c.args.self.now.phase (with_number x p.kept p.capacity p)) (sym c.in-Dead.ensures.kept)
+    (length_dead p c.args.byte c.args.self.now.phase c.requires.sized c.requires.state
+    (λ s. c.in-Dead.ensures.judges.0 (subst (λ (x : Allowed). SomeBegins x bytes) (sym set) s))
+    (λ s. c.in-Dead.ensures.judges.1 (subst (λ (x : Allowed). SomeBegins x bytes) (sym c.length_set-free.ensures) s)))

@@ -1,0 +1,10 @@
+pub mod Sets
+pub mod Sections
+pub mod Rests
+pub mod Tracks
+pub mod Names
+pub mod Points
+pub mod Phases
+pub mod Views
+pub mod Readers
+pub mod Alive

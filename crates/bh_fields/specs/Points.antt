@@ -1,0 +1,245 @@
+-- A section that is being read: what is stored of it, and what that says of the bytes.
+use Rattle.std.specs.Prelude.{ℕ, ◌≡◌, ◌<◌, ◌≤◌, ◌+◌, ◌-◌, ◌*◌, ◌/◌, ◌↔◌, Bool, List, [], ◌∷◌, ◌++◌, length, Option, Some, None, unwrap_or, IsTrue, vec_capacity}
+use Rattle.bh_spec.specs.declared.Form.{Form}
+use Rattle.bh_spec.specs.declared.Form.TheVariants.{Known, Indeterminate}
+use Rattle.bh_spec.specs.declared.Part.TheVariants as parts
+use Rattle.bh_spec.specs.Integers.{IsAllowed, SomeBegins}
+use Rattle.bh_spec.specs.Bounds.{Bounds, IsWithin, no_bounds}
+use Rattle.bh_spec.specs.Bytes.{lower}
+use Rattle.bh_spec.specs.Messages.{Field}
+use Rattle.bh_spec.specs.Texts.{mark}
+use Rattle.bh_varint.specs.Step.{IsUnfinished}
+use Rattle.bh_model.specs.declared.field.Place.{Place}
+use Rattle.bh_model.specs.Lines.{FieldsView, lines_room, making_room, making_count}
+use Rattle.bh_model.specs.Rules.{IsNameBehind}
+use Rattle.bh_fields.specs.declared.walk.Walk.{Walk}
+use Rattle.bh_fields.specs.declared.walk.Phase.{Phase}
+use Rattle.bh_fields.specs.declared.walk.Phase.TheVariants as phases
+use Rattle.bh_fields.specs.declared.walk.Judged.{Judged}
+use Rattle.bh_fields.specs.declared.walk.Judged.TheVariants as judged
+use Rattle.bh_fields.specs.Sets.{lines_set, names_set, values_set}
+use Rattle.bh_fields.specs.Sections.{IsSectionOf, SectionBegins}
+use Rattle.bh_fields.specs.Rests.{Spot, NumberThen, AreGood, CanEnd, HasMore, LinesLeft, ValueLeft, ValueBody, NameLeft, NameBody, LengthBody}
+use Rattle.bh_fields.specs.Tracks.{Tracked}
+use Rattle.bh_fields.specs.Names.{MayBePseudo, NameGood, ValueGood}
+
+-- what is stored, but for what is read next
+pub record Point : Type 0 where
+  pub limits : Bounds
+  pub form : Form
+  pub place : Place
+  pub total : ℕ
+  pub used : ℕ
+  pub number : List ℕ
+  pub flag : Bool
+  pub name_at : ℕ
+  pub fields : FieldsView
+  pub kept : List ℕ
+  pub capacity : ℕ
+
+abbrev pub point_of : Walk → Point
+point_of w = record {
+  limits = w.limits;
+  form = w.form;
+  place = w.place;
+  total = w.total;
+  used = w.used;
+  number = w.number;
+  flag = w.may_be_pseudo;
+  name_at = w.name_at;
+  fields = w.fields;
+  kept = w.kept.items;
+  capacity = vec_capacity w.kept;
+}
+
+abbrev pub spot_of : Point → Spot
+spot_of p = record { form = p.form; place = p.place; total = p.total; used = p.used; done = p.fields.lines }
+
+-- the limits, which are always there
+abbrev pub part_of : Bounds → ℕ
+part_of L = unwrap_or L.part 0
+
+abbrev pub most_of : Bounds → ℕ
+most_of L = unwrap_or L.section 0
+
+-- the limits are in their ranges, and the memory was taken for them
+pub record IsSized (p : Point) : Type 0 where
+  pub part_is : p.limits.part ≡ Some (part_of p.limits)
+  pub part_low : 16 ≤ part_of p.limits
+  pub most_is : p.limits.section ≡ Some (most_of p.limits)
+  pub most_high : most_of p.limits ≤ 1048576
+  pub capacity : most_of p.limits + 16 ≤ p.capacity
+  pub bytes : p.fields.spare + lines_room p.fields.lines + making_room p.fields.making ≡ most_of p.limits
+  pub count : p.fields.free + length p.fields.lines + making_count p.fields.making ≡ most_of p.limits / 3
+
+-- the bytes that the lines may have are those of the length, within the limit, or those of the limit
+abbrev pub IsBounded : Bounds → Form → ℕ → Type 0
+IsBounded L Known total = IsWithin L.section total
+IsBounded L Indeterminate total = L.section ≡ Some total
+
+-- the bytes of a known length are all there
+abbrev pub IsFull : Form → ℕ → ℕ → Type 0
+IsFull Known total used = used ≡ total
+IsFull Indeterminate total used = ⊥
+
+-- a section's length is read
+pub record LengthState (p : Point) : Type 0 where
+  pub known : p.form ≡ Known
+  pub unused : p.used ≡ 0
+  pub empty : p.fields.lines ≡ []
+  pub idle : p.fields.making ≡ None
+  pub flag : IsTrue p.flag ↔ MayBePseudo p.place p.fields.lines []
+  pub good : AreGood p.limits p.place p.fields.lines
+  pub live : SomeBegins (lines_set (most_of p.limits)) p.number
+  pub unfinished : IsUnfinished p.number
+  pub counted : length p.kept ≡ length p.number
+  pub long : length p.kept ≤ 7
+  pub tracked : Tracked p.form p.place p.kept
+      (λ L fields t. NumberThen parts.SectionLength (LengthBody L (spot_of p) fields) (mark parts.SectionLength p.number ++ t))
+
+-- what stands between lines
+pub record Between (p : Point) : Type 0 where
+  pub idle : p.fields.making ≡ None
+  pub flag : IsTrue p.flag ↔ MayBePseudo p.place p.fields.lines []
+  pub good : AreGood p.limits p.place p.fields.lines
+  pub bounded : IsBounded p.limits p.form p.total
+  pub room : p.used ≤ p.total
+  pub spare : p.total ≤ p.fields.spare + p.used
+  pub free : p.fields.spare ≤ 3 * p.fields.free + 2
+
+-- behind a line, or behind the section's length
+pub record NextState (p : Point) : Type 0 where
+  pub between : Between p
+  pub can_end : CanEnd p.limits p.form p.total p.used
+  pub number : p.number ≡ []
+  pub long : length p.kept + p.total ≤ most_of p.limits + 8 + p.used
+  pub tracked : Tracked p.form p.place p.kept (λ L fields t. LinesLeft L (spot_of p) fields t)
+
+-- a name's length is read, or the end
+pub record LineState (p : Point) : Type 0 where
+  pub between : Between p
+  pub more : HasMore p.form p.total p.used
+  pub live : SomeBegins (names_set p.form (part_of p.limits) (Some (p.total - p.used))) p.number
+  pub unfinished : IsUnfinished p.number
+  pub long : length p.kept + p.total ≤ most_of p.limits + 8 + length p.number + p.used
+  pub tracked : Tracked p.form p.place p.kept
+      (λ L fields t. NumberThen parts.NameLength (NameBody L (spot_of p) fields) (mark parts.NameLength p.number ++ t))
+
+-- behind a name's length of so many bytes, or the end
+pub record NamedState (p : Point) (n bytes : ℕ) : Type 0 where
+  pub between : Between p
+  pub allowed : IsAllowed (names_set p.form (part_of p.limits) (Some (p.total - p.used))) bytes n
+  pub number : p.number ≡ []
+  pub long : length p.kept + p.total ≤ most_of p.limits + 8 + bytes + p.used
+  pub tracked : Tracked p.form p.place p.kept (λ L fields t. NameBody L (spot_of p) fields n bytes t)
+
+-- the line that is being made
+abbrev pub making_of : List ℕ → List ℕ → Option Field
+making_of name value = Some (record { name = name; value = value })
+
+-- where the name stands among the bytes, as it is spelled
+pub record NameAt (kept : List ℕ) (at : ℕ) (name : List ℕ) : Type 0 where
+  pub front : List ℕ
+  pub spelled : List ℕ
+  pub whole : kept ≡ front ++ spelled
+  pub begins : length front ≡ at
+  pub lowered : lower spelled ≡ name
+
+-- a name is read, of which so many bytes are missing
+pub record NameState (p : Point) (missing : ℕ) : Type 0 where
+  pub name : List ℕ
+  pub making : p.fields.making ≡ making_of name []
+  pub flag : IsTrue p.flag ↔ MayBePseudo p.place p.fields.lines name
+  pub kind : NameGood p.flag name missing
+  pub within : IsWithin p.limits.part (length name + missing)
+  pub some : 0 < missing
+  pub stands : NameAt p.kept p.name_at name
+  pub good : AreGood p.limits p.place p.fields.lines
+  pub bounded : IsBounded p.limits p.form p.total
+  pub room : p.used < p.total
+  pub spare : missing + p.total ≤ p.fields.spare + 1 + p.used
+  pub free : p.fields.spare + length name ≤ 3 * p.fields.free + 3
+  pub number : p.number ≡ []
+  pub long : length p.kept + missing + p.total ≤ most_of p.limits + 8 + p.used
+  pub tracked : Tracked p.form p.place p.kept (λ L fields t. NameLeft L (spot_of p) name missing fields t)
+
+-- what stands behind a whole name
+pub record Valued (p : Point) (name value : List ℕ) : Type 0 where
+  pub making : p.fields.making ≡ making_of name value
+  pub named : 0 < length name
+  pub flag : IsTrue p.flag ↔ MayBePseudo p.place p.fields.lines name
+  pub behind : IsNameBehind p.place p.fields.lines name
+  pub within : IsWithin p.limits.part (length name)
+  pub good : AreGood p.limits p.place p.fields.lines
+  pub bounded : IsBounded p.limits p.form p.total
+  pub room : p.used ≤ p.total
+  pub free : p.fields.spare ≤ 3 * p.fields.free + 2
+
+-- a value's length is read
+pub record ValueLengthState (p : Point) : Type 0 where
+  pub name : List ℕ
+  pub valued : Valued p name []
+  pub live : SomeBegins (values_set p.form (part_of p.limits) (Some (p.total - p.used))) p.number
+  pub unfinished : IsUnfinished p.number
+  pub spare : p.total ≤ p.fields.spare + 1 + p.used
+  pub long : length p.kept + p.total ≤ most_of p.limits + 8 + length p.number + p.used
+  pub tracked : Tracked p.form p.place p.kept
+      (λ L fields t. NumberThen parts.ValueLength (ValueBody L (spot_of p) name fields) (mark parts.ValueLength p.number ++ t))
+
+-- inside a value, of which so many bytes are missing, if any
+pub record InValue (p : Point) (value : List ℕ) (missing : ℕ) : Type 0 where
+  pub name : List ℕ
+  pub valued : Valued p name value
+  pub kind : ValueGood value missing
+  pub within : IsWithin p.limits.part (length value + missing)
+  pub can_end : CanEnd p.limits p.form p.total p.used
+  pub spare : missing + p.total ≤ p.fields.spare + p.used
+  pub number : p.number ≡ []
+  pub long : length p.kept + missing + p.total ≤ most_of p.limits + 8 + p.used
+  pub tracked : Tracked p.form p.place p.kept (λ L fields t. ValueLeft L (spot_of p) name value missing fields t)
+
+-- a value is read; the flag says whether none of it came
+pub record ValueState (p : Point) (missing : ℕ) (first : Bool) : Type 0 where
+  pub value : List ℕ
+  pub inside : InValue p value missing
+  pub some : 0 < missing
+  pub first_is : IsTrue first ↔ (value ≡ [])
+
+-- the section is whole
+pub record WholeState (p : Point) : Type 0 where
+  pub idle : p.fields.making ≡ None
+  pub whole : IsSectionOf p.limits p.form p.place p.fields.lines p.kept
+
+-- what is known where a byte may be read
+abbrev pub ReadingAt : Phase → Point → Type 0
+ReadingAt phases.Idle p = ⊥
+ReadingAt phases.SectionLength p = LengthState p
+ReadingAt phases.NameLength p = LineState p
+ReadingAt (phases.Name missing) p = NameState p missing
+ReadingAt phases.ValueLength p = ValueLengthState p
+ReadingAt (phases.Value missing first) p = ValueState p missing first
+ReadingAt phases.Whole p = ⊥
+ReadingAt phases.Refused p = ⊥
+
+-- it is the same section's
+pub record IsSame (p q : Point) : Type 0 where
+  pub limits : q.limits ≡ p.limits
+  pub form : q.form ≡ p.form
+  pub place : q.place ≡ p.place
+
+-- what is known behind bytes that were taken
+abbrev pub Moves : Judged → Point → Phase → Point → Type 0
+Moves judged.More p phase q = IsSized q × ReadingAt phase q × IsSame p q × (q.kept ≡ p.kept)
+Moves judged.Whole p phase q = IsSized q × ((phase ≡ phases.Whole) × WholeState q) × IsSame p q × (q.kept ≡ p.kept)
+Moves judged.Limit p phase q = ⊥
+Moves judged.Dead p phase q = ⊥
+
+abbrev pub Goes : Bounds → Point → ℕ → Type 0
+Goes L p byte = SectionBegins L p.form p.place (p.kept ++ byte ∷ [])
+
+-- what a byte makes of it
+abbrev pub Outcome : Judged → Point → ℕ → Phase → Point → Type 0
+Outcome judged.More p byte phase q = IsSized q × ReadingAt phase q × IsSame p q × (q.kept ≡ p.kept ++ byte ∷ [])
+Outcome judged.Whole p byte phase q = IsSized q × ((phase ≡ phases.Whole) × WholeState q) × IsSame p q × (q.kept ≡ p.kept ++ byte ∷ [])
+Outcome judged.Limit p byte phase q = IsSized q × ((Goes p.limits p byte → ⊥) × Goes no_bounds p byte) × IsSame p q × (q.kept ≡ p.kept)
+Outcome judged.Dead p byte phase q = IsSized q × ((Goes p.limits p byte → ⊥) × (Goes no_bounds p byte → ⊥)) × IsSame p q × (q.kept ≡ p.kept)

@@ -1,0 +1,18 @@
+//! Field sections (RFC 9292, section 3.6), read in pieces of any length: each byte is judged as it comes, and the first
+//! byte after which no section continues is refused.
+#![tactic(auto)]
+
+mod laws;
+#[cfg(test)]
+mod plain;
+mod reader;
+mod sets;
+mod steps;
+#[cfg(test)]
+mod tests;
+mod walk;
+
+pub use laws::{
+    name_byte_alive, name_length_alive, section_length_alive, value_byte_alive, value_length_alive,
+};
+pub use reader::{SectionReader, SectionStep};

@@ -1,0 +1,165 @@
+//! The reader of sections, over pieces of any length.
+ghost use Rattle.std.specs.Prelude.{◌≡◌, ◌↔◌, ℕ, IfOk, IsTrue, None};
+ghost use Rattle.bh_spec.specs.declared.Part.{Part as part_type};
+ghost use Rattle.bh_fields.specs.Sections.{IsNextPart};
+ghost use Rattle.bh_fields.specs.Views.{reading, whole, new_view, begun_view, first_of, Takes};
+ghost use Rattle.bh_fields.specs.Readers.{IsNeed, IsWholeAt, IsDeadAt, IsLimitAt, IsBehind};
+
+use crate::walk::{Judged, Phase, Walk};
+use bh_base::NoMemory;
+use bh_model::{Fields, Form, Limits, Part, Place};
+use bh_varint::Partial;
+use std::alloc::Global;
+use std::marker::Model;
+
+/// What a piece makes of a section.
+#[derive(Clone, Copy, Debug, PartialEq, Eq)]
+pub enum SectionStep {
+    /// The whole piece was taken, and the section isn't whole.
+    Need,
+    /// With so many bytes of the piece the section is whole.
+    Whole { taken: usize },
+    /// No section goes on with the byte at this place of the piece, not even without limits. The byte's part is that of the
+    /// next byte in every section that continues the bytes before it.
+    Dead { offset: usize, part: Part },
+    /// Only the limits forbid every section that goes on with the byte.
+    Limit { offset: usize, part: Part },
+}
+
+/// Reads field sections (RFC 9292, section 3.6), one after the other. It keeps the bytes of the section that it reads, and
+/// takes its memory when it is made.
+#[derive(Drop)]
+pub struct SectionReader {
+    walk: Walk,
+}
+
+impl Model for SectionReader {
+    ghost use Rattle.bh_fields.specs.Views.{SectionView, view_of, IsSound};
+
+    ghost Value = { SectionView };
+
+    ghost view = { λ r. view_of r.walk };
+
+    ghost invariant = { λ r. IsSound r.walk };
+}
+
+impl SectionReader {
+    /// A reader with no section, for sections within the limits.
+    pub fn new(alloc: Global, limits: &Limits) -> Result<SectionReader, NoMemory>
+        ensures { IfOk result (λ reader. reader ≡ new_view limits.now) }
+    {
+        // Each limit is in its range, so that the shortest lines fit.
+        let part = limits.part();
+        prove!(part >= 16);
+        let most = limits.section() as usize;
+        let fields = Fields::with_room(alloc, most, most / 3)?;
+        let kept = Vec::with_capacity(alloc, most + 16)?;
+        Ok(SectionReader {
+            walk: Walk {
+                limits: *limits,
+                form: Form::Known,
+                place: Place::Header,
+                phase: Phase::Idle,
+                total: 0,
+                used: 0,
+                number: Partial::new(),
+                may_be_pseudo: false,
+                name_at: 0,
+                fields,
+                kept,
+            },
+        })
+    }
+
+    /// Empties the reader for a new section.
+    pub fn begin(&mut self, form: Form, place: Place)
+        ensures { self.new ≡ begun_view form place self.old }
+    {
+        let total = self.walk.limits.section();
+        self.walk.form = form;
+        self.walk.place = place;
+        self.walk.total = total;
+        self.walk.used = 0;
+        self.walk.number = Partial::new();
+        self.walk.may_be_pseudo = is_header(place);
+        self.walk.name_at = 0;
+        self.walk.fields.clear();
+        self.walk.kept.clear();
+        self.walk.phase = first_phase(form);
+    }
+
+    /// Takes the bytes of a piece up to the section's end, or to the first byte after which no section continues.
+    pub fn push(&mut self, piece: &[u8]) -> SectionStep
+        requires { self.old.stage ≡ reading }
+        ensures need { (result ≡ SectionStep.Need) ↔ IsNeed self.old piece.now }
+        ensures whole { (taken : ℕ) → (result ≡ SectionStep.Whole taken) ↔ IsWholeAt self.old piece.now taken }
+        ensures dead { (offset : ℕ) (part : part_type)
+            → (result ≡ SectionStep.Dead offset part) ↔ IsDeadAt self.old piece.now offset part }
+        ensures limit { (offset : ℕ) (part : part_type)
+            → (result ≡ SectionStep.Limit offset part) ↔ IsLimitAt self.old piece.now offset part }
+        ensures behind { IsBehind self.old piece.now result self.new }
+    {
+        let mut part = self.next_part();
+        for (offset, &byte) in piece.iter().enumerate() {
+            match self.take(byte) {
+                Judged::More => part = self.next_part(),
+                Judged::Whole => return SectionStep::Whole { taken: offset + 1 },
+                Judged::Limit => return SectionStep::Limit { offset, part },
+                Judged::Dead => return SectionStep::Dead { offset, part },
+            }
+        }
+        SectionStep::Need
+    }
+
+    /// Takes a byte.
+    fn take(&mut self, byte: u8) -> Judged
+        requires { self.old.stage ≡ reading }
+        ensures { Takes result self.old byte self.new }
+    {
+        match self.walk.step(byte) {
+            Judged::More => Judged::More,
+            Judged::Whole => Judged::Whole,
+            Judged::Limit => {
+                self.walk.phase = Phase::Refused;
+                Judged::Limit
+            }
+            Judged::Dead => {
+                self.walk.phase = Phase::Refused;
+                Judged::Dead
+            }
+        }
+    }
+
+    /// The part of the next byte.
+    pub fn next_part(&self) -> Part
+        requires { self.now.stage ≡ reading }
+        ensures { IsNextPart self.now.limits self.now.form self.now.place self.now.bytes result }
+    {
+        self.walk.phase.part()
+    }
+
+    /// The lines. Between `Whole` and the next `begin` they are the section's.
+    pub fn fields(&self) -> &Fields
+        ensures lines { result.now.lines ≡ self.now.lines }
+        ensures whole { self.now.stage ≡ whole → result.now.making ≡ None }
+    {
+        &self.walk.fields
+    }
+}
+
+/// Whether pseudo-fields may stand at the place.
+fn is_header(place: Place) -> bool
+    ensures { IsTrue result ↔ (place ≡ Place.Header) }
+{
+    place == Place::Header
+}
+
+/// What is read first.
+fn first_phase(form: Form) -> Phase
+    ensures { result ≡ first_of form }
+{
+    match form {
+        Form::Known => Phase::SectionLength,
+        Form::Indeterminate => Phase::NameLength,
+    }
+}
