@@ -82,6 +82,28 @@ impl Fields {
         })
     }
 
+    /// A copy of the lines, and of the line that is being made, with no room for more.
+    pub fn copy(&self, alloc: Global) -> Result<Fields, NoMemory>
+        ensures lines { IfOk result (λ copy. copy.lines ≡ self.now.lines) }
+        ensures making { IfOk result (λ copy. copy.making ≡ self.now.making) }
+        ensures spare { IfOk result (λ copy. copy.spare ≡ 0) }
+        ensures free { IfOk result (λ copy. copy.free ≡ 0) }
+    {
+        let most = begun_lines(&self.ends, self.making);
+        let room = self.bytes.len() + 2 * most;
+        let mut bytes = Vec::with_capacity(alloc, room)?;
+        bytes.extend_from_slice(&self.bytes)?;
+        let mut ends = Vec::with_capacity(alloc, most)?;
+        ends.extend_from_slice(&self.ends)?;
+        Ok(Fields {
+            bytes,
+            ends,
+            making: self.making,
+            room,
+            most,
+        })
+    }
+
     /// Adds a line. It takes no memory.
     pub fn push_line(&mut self, name: &[u8], value: &[u8])
         requires idle { self.old.making ≡ None }
