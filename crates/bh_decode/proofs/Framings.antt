@@ -1,0 +1,81 @@
+-- The framing number, and statuses.
+use Rattle.std.proofs.Common.{◌≡◌, ℕ, zero, suc, List, [], ◌∷◌, ◌++◌, length, take, Option, refl, sym, ap, subst, ◌∙◌, append-nil, arith}
+use Rattle.std.proofs.lemmas.List.{map-append}
+use Rattle.bh_spec.specs.declared.Part.{Part}
+use Rattle.bh_spec.specs.declared.Part.TheVariants as parts
+use Rattle.bh_spec.specs.declared.Form.{Form}
+use Rattle.bh_spec.specs.declared.Form.TheVariants.{Known, Indeterminate}
+use Rattle.bh_spec.specs.declared.Kind.{Kind}
+use Rattle.bh_spec.specs.declared.Kind.TheVariants.{Request, Response}
+use Rattle.bh_spec.specs.Integers.{vi}
+use Rattle.bh_spec.specs.Spelling.{framing}
+use Rattle.bh_spec.specs.Texts.{Text, mark, bytes_of, IsNumber}
+use Rattle.bh_spec.proofs.Written.{unmark}
+use Rattle.bh_control.specs.Pieces.{IsNext, Ends, GoesOn}
+use Rattle.bh_control.specs.Statuses.{StatusOf}
+use Rattle.bh_decode.specs.declared.stop.Stop.{Stop}
+use Rattle.bh_decode.specs.Grammar.{IsFramed}
+use Rattle.bh_decode.specs.Numbers.{NumberOf}
+use Rattle.bh_decode.specs.Stops.{SomeOf, IsCutThing, StopsThing}
+use Rattle.bh_decode.proofs.Fronts.{ends_same}
+use Rattle.bh_decode.proofs.Stopped.{Same, thing_same}
+
+-- ---- the framing number
+
+framed_of : (t : Text) → SomeOf (NumberOf parts.Framing 3) t → SomeOf IsFramed t
+framed_of t (zero, h) = ((Request, Known), h.spelled)
+framed_of t (suc zero, h) = ((Response, Known), h.spelled)
+framed_of t (suc (suc zero), h) = ((Request, Indeterminate), h.spelled)
+framed_of t (suc (suc (suc zero)), h) = ((Response, Indeterminate), h.spelled)
+framed_of t (suc (suc (suc (suc n))), h) = absurd (omega (arith, h.within))
+
+of_framed : (t : Text) → SomeOf IsFramed t → SomeOf (NumberOf parts.Framing 3) t
+of_framed t ((Request, Known), h) = (0, record { within = omega arith; spelled = h })
+of_framed t ((Response, Known), h) = (1, record { within = omega arith; spelled = h })
+of_framed t ((Request, Indeterminate), h) = (2, record { within = omega arith; spelled = h })
+of_framed t ((Response, Indeterminate), h) = (3, record { within = omega arith; spelled = h })
+
+framed_same : Same (SomeOf (NumberOf parts.Framing 3)) (SomeOf IsFramed)
+framed_same = record { on = framed_of; back = of_framed }
+
+pub framing_stops : (bytes : List ℕ) (stop : Stop) → StopsThing (SomeOf (NumberOf parts.Framing 3)) (SomeOf (NumberOf parts.Framing 3)) bytes stop
+    → StopsThing (SomeOf IsFramed) (SomeOf IsFramed) bytes stop
+framing_stops bytes stop h =
+    thing_same (SomeOf (NumberOf parts.Framing 3)) (SomeOf IsFramed) (SomeOf (NumberOf parts.Framing 3)) (SomeOf IsFramed) framed_same framed_same bytes stop h
+
+pub framing_ends : (kind : Kind) (form : Form) (n : ℕ) (bytes : List ℕ) (taken : ℕ) → n ≡ framing kind form → Ends (NumberOf parts.Framing 3 n) [] bytes taken → Ends (IsFramed (kind, form)) [] bytes taken
+framing_ends kind form n bytes taken e h =
+    ends_same (NumberOf parts.Framing 3 n) (IsFramed (kind, form)) (λ t s. subst (λ (k : ℕ). IsNumber parts.Framing k t) e s.spelled) bytes taken h
+
+-- ---- a status
+
+-- a status that goes on behind bytes has a next byte
+pub status_cut : (left : Option ℕ) (bytes : List ℕ) → GoesOn (SomeOf (StatusOf left)) [] bytes → IsCutThing (SomeOf (StatusOf left)) bytes parts.Status
+status_cut left bytes h = record { on = h; next = next h.begins.after h.begins.begins }
+  where
+    status : ℕ
+    status = h.begins.spelled.0
+
+    number : IsNumber parts.Status status h.begins.text
+    number = h.begins.spelled.1.spelled
+
+    all : (xs : List ℕ) → take (length xs) xs ≡ xs
+    all [] = refl
+    all (x ∷ xs) = ap (λ (ys : List ℕ). x ∷ ys) (all xs)
+
+    next : (after : List ℕ) → bytes_of h.begins.text ≡ bytes ++ after → IsNext (SomeOf (StatusOf left)) bytes parts.Status
+    next [] e = absurd (h.unfinished (length bytes) (record {
+      within = omega arith;
+      whole = record { text = h.begins.text; spelled = h.begins.spelled; same = e ∙ append-nil bytes ∙ sym (all bytes) };
+    }))
+    next (byte ∷ after) e =
+        let these : vi status number.width ≡ bytes ++ (byte ∷ after) = sym (unmark parts.Status (vi status number.width)) ∙ sym (ap bytes_of number.spelled) ∙ e in
+        let text : h.begins.text ≡ mark parts.Status bytes ++ ((parts.Status, byte) ∷ mark parts.Status after) =
+        number.spelled ∙ ap (mark parts.Status) these ∙ map-append (λ (b : ℕ). let z : Part × ℕ = (parts.Status, b) in z) bytes (byte ∷ after) in
+        record {
+          before = mark parts.Status bytes;
+          byte = byte;
+          after = mark parts.Status after;
+          spelled = subst (SomeOf (StatusOf left)) text h.begins.spelled;
+          begins = unmark parts.Status bytes;
+        }

@@ -1,0 +1,86 @@
+-- What is said of the rest of a message, behind what was read, is said of the message.
+use Rattle.std.proofs.Common.{◌≡◌, ◌≤◌, ◌+◌, ℕ, List, [], ◌++◌, length, take, refl, sym, ap, subst, ◌∙◌, arith}
+use Rattle.std.proofs.Math.Seq.{take-append-add}
+use Rattle.std.proofs.lemmas.List.{length-append}
+use Rattle.bh_spec.specs.declared.Part.{Part}
+use Rattle.bh_spec.specs.declared.Omitted.{Omitted}
+use Rattle.bh_spec.specs.declared.Refusal.TheVariants.{Dead, Limit, Ended}
+use Rattle.bh_spec.specs.Bounds.{Bounds, IsWithin, no_bounds}
+use Rattle.bh_spec.specs.Messages.{Message}
+use Rattle.bh_spec.specs.Texts.{Text}
+use Rattle.bh_spec.specs.Viable.{SpellsBytes, IsViable, NextPart}
+use Rattle.bh_spec.specs.Answers.{refused, IsRefusedAt, IsAnswer}
+use Rattle.bh_control.specs.Pieces.{IsText, CanBecome, IsNext, IsRefused, IsDead, IsLimit}
+use Rattle.bh_control.proofs.Pieces.{next_becomes}
+use Rattle.bh_decode.specs.Grammar.{IsMessageText}
+use Rattle.bh_decode.proofs.Contexts.{Context}
+
+pub viable_of : (L : Bounds) (bytes : List ℕ) → CanBecome (IsMessageText L) bytes → IsViable L bytes
+viable_of L bytes h = record {
+  message = h.spelled.0;
+  omitted = h.spelled.1;
+  padding = h.spelled.2;
+  text = h.text;
+  after = h.after;
+  spelled = h.spelled.3;
+  begins = h.begins;
+}
+
+pub of_viable : (L : Bounds) (bytes : List ℕ) → IsViable L bytes → CanBecome (IsMessageText L) bytes
+of_viable L bytes h = record { text = h.text; after = h.after; spelled = (h.message, h.omitted, h.padding, h.spelled); begins = h.begins }
+
+pub next_of : (L : Bounds) (bytes : List ℕ) (part : Part) → IsNext (IsMessageText L) bytes part → NextPart L bytes part
+next_of L bytes part h = record {
+  message = h.spelled.0;
+  omitted = h.spelled.1;
+  padding = h.spelled.2;
+  before = h.before;
+  byte = h.byte;
+  after = h.after;
+  spelled = h.spelled.3;
+  begins = h.begins;
+}
+
+pub of_spelled : (L : Bounds) (m : Message) (o : Omitted) (z : ℕ) (bytes : List ℕ) → SpellsBytes L m o z bytes → IsText (IsMessageText L) bytes
+of_spelled L m o z bytes h = record { text = h.0; spelled = (m, o, z, h.1); same = h.2 }
+
+-- the first bytes, up to one of the piece
+front : (done piece : List ℕ) (k : ℕ) → take (length done + k) (done ++ piece) ≡ done ++ take k piece
+front done piece k = take-append-add done piece k
+
+front_more : (done piece : List ℕ) (k : ℕ) → take (length done + k + 1) (done ++ piece) ≡ done ++ take (k + 1) piece
+front_more done piece k = let e : length done + k + 1 ≡ length done + (k + 1) = omega arith in ap (λ (n : ℕ). take n (done ++ piece)) e ∙ front done piece (k + 1)
+
+refused_in : (L : Bounds) (R : Text → Type 0) (done piece : List ℕ) (k n : ℕ) (part : Part) → Context (IsMessageText L) R done n → IsRefused R [] piece k part
+    → IsWithin L.input (length done + k + 1) → IsRefusedAt L (done ++ piece) (length done + k) part
+refused_in L R done piece k n part c h seen = record {
+  inside = omega (arith, length-append done piece, h.inside);
+  seen = seen;
+  before = subst (IsViable L) (sym (front done piece k)) (viable_of L (done ++ take k piece) (c.into (take k piece) (next_becomes R (take k piece) part h.next)));
+  after = λ v. h.after (c.out (take (k + 1) piece) (of_viable L (done ++ take (k + 1) piece) (subst (IsViable L) (front_more done piece k) v)));
+  next = subst (λ (x : List ℕ). NextPart L x part) (sym (front done piece k)) (next_of L (done ++ take k piece) part (c.next (take k piece) part h.next));
+}
+
+pub dead_in : (L : Bounds) (R S : Text → Type 0) (done piece : List ℕ) (k m n : ℕ) (part : Part) → Context (IsMessageText L) R done m → Context (IsMessageText no_bounds) S done n → IsDead R S [] piece k part
+    → IsWithin L.input (length done + k + 1) → IsAnswer L (done ++ piece) (refused (Dead (length done + k) part))
+dead_in L R S done piece k m n part c d h seen = (
+  refused_in L R done piece k m part c h.refused seen,
+  λ v. h.anyway (d.out (take (k + 1) piece) (of_viable no_bounds (done ++ take (k + 1) piece) (subst (IsViable no_bounds) (front_more done piece k) v))),
+)
+
+pub limit_in : (L : Bounds) (R S : Text → Type 0) (done piece : List ℕ) (k m n : ℕ) (part : Part) → Context (IsMessageText L) R done m → Context (IsMessageText no_bounds) S done n → IsLimit R S [] piece k part
+    → IsWithin L.input (length done + k + 1) → IsAnswer L (done ++ piece) (refused (Limit (length done + k) part))
+limit_in L R S done piece k m n part c d h seen = (
+  refused_in L R done piece k m part c h.refused seen,
+  subst (IsViable no_bounds) (sym (front_more done piece k)) (viable_of no_bounds (done ++ take (k + 1) piece) (d.into (take (k + 1) piece) h.anyway)),
+)
+
+pub ended_in : (L : Bounds) (R : Text → Type 0) (done piece : List ℕ) (n : ℕ) (part : Part) → Context (IsMessageText L) R done n → n ≤ length piece → IsNext R piece part → (IsText R piece → ⊥)
+    → IsWithin L.input (length (done ++ piece)) → IsAnswer L (done ++ piece) (refused (Ended (length (done ++ piece)) part))
+ended_in L R done piece n part c enough next none seen = record {
+  long = refl;
+  seen = seen;
+  viable = viable_of L (done ++ piece) (c.into piece (next_becomes R piece part next));
+  unfinished = λ m o z h. none (c.text piece enough (of_spelled L m o z (done ++ piece) h));
+  next = next_of L (done ++ piece) part (c.next piece part next);
+}

@@ -1,0 +1,13 @@
+use Rattle.std.proofs.Common.{◌≡◌, ℕ, length, take, replicate, arith, sym, ap, ◌∙◌}
+use Rattle.bh_control.proofs.Pieces.{take_all}
+use Rattle.bh_decode.proofs.Paddings.{padding_whole, padding_dead}
+use Rattle.bh_decode.proofs.padding.read_padding.Goals as goal
+
+pub returns-then-byte-ne0-clause-stops : goal.returns-then-byte-ne0-clause-stops
+returns-then-byte-ne0-clause-stops c = padding_dead c.args.bytes.now c.loop-i.i c.loop-i.invariant c.loop-i-test.true c.if-byte-ne0.true
+
+pub returns-clause-whole : goal.returns-clause-whole
+returns-clause-whole c =
+    let all : c.loop-i.i ≡ length c.args.bytes.now = omega (arith, c.loop-i.auto.i-end, c.loop-i-test.false) in
+    padding_whole c.args.bytes.now (length c.args.bytes.now)
+    (sym (take_all c.args.bytes.now) ∙ ap (λ (n : ℕ). take n c.args.bytes.now) (sym all) ∙ c.loop-i.invariant ∙ ap (λ (n : ℕ). replicate n 0) all)

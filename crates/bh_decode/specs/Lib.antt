@@ -1,0 +1,7 @@
+pub mod Laws
+pub mod Grammar
+pub mod Stops
+pub mod Numbers
+pub mod Contexts
+pub mod Responses
+pub mod Answering

@@ -1,0 +1,29 @@
+-- A response up to its final status (RFC 9292, section 3.5).
+use Rattle.std.specs.Prelude.{ℕ, ◌≡◌, ◌<◌, ◌≤◌, List, [], length, All, None}
+use Rattle.bh_spec.specs.declared.Form.{Form}
+use Rattle.bh_spec.specs.declared.Part.TheVariants as parts
+use Rattle.bh_spec.specs.Bounds.{Bounds, IsWithin}
+use Rattle.bh_spec.specs.Messages.{Interim, IsInterim}
+use Rattle.bh_spec.specs.Texts.{Text, IsNumber, ◌then◌, AreEach}
+use Rattle.bh_spec.specs.Spelling.{IsInterimText}
+use Rattle.bh_model.specs.declared.field.Place.TheVariants.{Header}
+use Rattle.bh_fields.specs.Sections.{SectionOf}
+use Rattle.bh_control.specs.Pieces.{Ends}
+use Rattle.bh_control.specs.Statuses.{StatusOf}
+use Rattle.bh_decode.specs.declared.opening.Step.{Step}
+use Rattle.bh_decode.specs.declared.opening.Step.TheVariants as steps
+use Rattle.bh_decode.specs.Grammar.{status_left}
+
+-- what was read behind so many interim responses: one more, or the final status
+abbrev pub StepIs : Bounds → Form → ℕ → List ℕ → Step → Type 0
+StepIs L form before bytes (steps.Interim interim taken) = (interim.status < 200) × (interim.fields.making ≡ None)
+    × Ends (StatusOf (status_left L.interims before) interim.status then SectionOf L form Header interim.fields.lines) [] bytes taken
+StepIs L form before bytes (steps.Final status taken) = (200 ≤ status) × Ends (StatusOf (status_left L.interims before) status) [] bytes taken
+
+-- these interim responses, and this final status
+pub record OpeningOf (L : Bounds) (form : Form) (interims : List Interim) (status : ℕ) (t : Text) : Type 0 where
+  pub each : All IsInterim interims
+  pub few : IsWithin L.interims (length interims)
+  pub low : 200 ≤ status
+  pub high : status ≤ 599
+  pub spelled : (AreEach (IsInterimText L form) interims then IsNumber parts.Status status) t

@@ -1,0 +1,122 @@
+//! A response up to its final status.
+ghost use Rattle.std.specs.Prelude.{◌≡◌, ◌≤◌, ◌^◌, [], Some, map, take, length, IfOk, IfErr};
+ghost use Rattle.bh_spec.specs.Bounds.{no_bounds};
+ghost use Rattle.bh_model.specs.Values.{interim_of, AreEnded};
+ghost use Rattle.bh_control.specs.Pieces.{Ends};
+ghost use Rattle.bh_decode.specs.Contexts.{Context};
+ghost use Rattle.bh_decode.specs.Grammar.{IsResponseText, IsAfterStart};
+ghost use Rattle.bh_decode.specs.Responses.{StepIs, OpeningOf};
+ghost use Rattle.bh_decode.specs.Stops.{Stops, AtStop};
+
+use crate::fault::Fault;
+use crate::section::read_section;
+use crate::slices::behind;
+use crate::status::read_status;
+use bh_fields::SectionReader;
+use bh_model::{Form, Interim, Interims, Place};
+use std::alloc::Global;
+
+/// An interim response, or the final status, and how many bytes it has.
+#[derive(Drop)]
+pub enum Step {
+    Interim { interim: Interim, taken: usize },
+    Final { status: u16, taken: usize },
+}
+
+/// The interim responses and the final status, and how many bytes they have.
+#[derive(Drop)]
+pub struct Opening {
+    pub interims: Interims,
+    pub status: u16,
+    pub taken: usize,
+}
+
+/// Reads one more interim response behind `before` of them, of which there are at most `most`; or the final status (RFC
+/// 9292, section 3.5).
+fn read_step(
+    alloc: Global,
+    most: u64,
+    reader: &mut SectionReader,
+    form: Form,
+    before: usize,
+    bytes: &[u8],
+) -> Result<Step, Fault>
+    requires short { length bytes.now ≤ 2 ^ 40 }
+    requires most { reader.old.limits.interims ≡ Some most }
+    requires before { before ≤ most }
+    ensures whole { IfOk result (StepIs reader.old.limits form before bytes.now) }
+    ensures limits { reader.new.limits ≡ reader.old.limits }
+    ensures stops { IfErr result (AtStop (Stops (IsResponseText reader.old.limits form before) (IsResponseText no_bounds form before) bytes.now)) }
+{
+    let read = read_status(bytes, most - before as u64)?;
+    if read.status >= 200 {
+        return Ok(Step::Final {
+            status: read.status,
+            taken: read.taken,
+        });
+    }
+    match read_section(reader, behind(bytes, read.taken), form, Place::Header) {
+        Ok(taken) => Ok(Step::Interim {
+            interim: Interim {
+                status: read.status,
+                fields: reader.fields().copy(alloc)?,
+            },
+            taken: read.taken + taken,
+        }),
+        Err(stop) => Err(Fault::Stop(stop.behind(read.taken))),
+    }
+}
+
+/// Reads the interim responses and the final status (RFC 9292, section 3.5).
+pub fn read_opening(
+    alloc: Global,
+    most: u64,
+    reader: &mut SectionReader,
+    form: Form,
+    bytes: &[u8],
+) -> Result<Opening, Fault>
+    requires short { length bytes.now ≤ 2 ^ 40 }
+    requires most { reader.old.limits.interims ≡ Some most }
+    ensures whole { IfOk result (λ opening. Ends (OpeningOf reader.old.limits form (map interim_of opening.interims) opening.status) [] bytes.now opening.taken) }
+    ensures ended { IfOk result (λ opening. AreEnded opening.interims) }
+    ensures behind { IfOk result (λ opening. Context (IsResponseText reader.old.limits form 0) (IsAfterStart reader.old.limits form) (take opening.taken bytes.now) 0) }
+    ensures anyway { IfOk result (λ opening. Context (IsResponseText no_bounds form 0) (IsAfterStart no_bounds form) (take opening.taken bytes.now) 0) }
+    ensures limits { reader.new.limits ≡ reader.old.limits }
+    ensures stops { IfErr result (AtStop (Stops (IsResponseText reader.old.limits form 0) (IsResponseText no_bounds form 0) bytes.now)) }
+{
+    let mut interims = Interims::none(alloc);
+    let mut taken = 0;
+    loop {
+        match read_step(
+            alloc,
+            most,
+            reader,
+            form,
+            interims.len(),
+            behind(bytes, taken),
+        ) {
+            Ok(
+                Step::Interim {
+                    interim,
+                    taken: more,
+                },
+            ) => {
+                interims.push(interim)?;
+                taken += more;
+            }
+            Ok(
+                Step::Final {
+                    status,
+                    taken: more,
+                },
+            ) => {
+                return Ok(Opening {
+                    interims,
+                    status,
+                    taken: taken + more,
+                });
+            }
+            Err(fault) => return Err(fault.behind(taken)),
+        }
+    }
+}

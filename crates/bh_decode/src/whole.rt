@@ -1,0 +1,128 @@
+//! Whole messages.
+ghost use Rattle.std.specs.Prelude.{◌≡◌, ◌≤◌, ◌^◌, Some, length, IfOk, IfErr};
+ghost use Rattle.bh_spec.specs.Bounds.{no_bounds};
+ghost use Rattle.bh_spec.specs.Viable.{SpellsBytes};
+ghost use Rattle.bh_spec.specs.declared.Kind.TheVariants as kinds;
+ghost use Rattle.bh_control.specs.Pieces.{IsText};
+ghost use Rattle.bh_decode.specs.Grammar.{IsAfterFraming, IsMessageText, FramedOf};
+ghost use Rattle.bh_decode.specs.Stops.{Stops, AtStop};
+
+use crate::control::read_control;
+use crate::fault::Fault;
+use crate::framing::read_framing;
+use crate::head::{Parts, read_parts};
+use crate::opening::read_opening;
+use crate::slices::behind;
+use bh_fields::SectionReader;
+use bh_model::{Form, Kind, Limits, Message, Omitted};
+use std::alloc::Global;
+
+/// A message that was read, what its text leaves out, and how many zeros of padding it has.
+#[derive(Drop)]
+pub struct Whole {
+    pub message: Message,
+    pub omitted: Omitted,
+    pub padding: usize,
+}
+
+/// Reads a request behind its framing number (RFC 9292, section 3.1).
+fn read_request(
+    alloc: Global,
+    limits: &Limits,
+    reader: &mut SectionReader,
+    form: Form,
+    bytes: &[u8],
+) -> Result<Whole, Fault>
+    requires short { length bytes.now ≤ 2 ^ 40 }
+    requires limits { reader.old.limits ≡ limits.now }
+    ensures whole { IfOk result (λ read. IsText (FramedOf limits.now kinds.Request form read.message read.omitted read.padding) bytes.now) }
+    ensures stops { IfErr result (AtStop (Stops (IsAfterFraming limits.now (kinds.Request, form)) (IsAfterFraming no_bounds (kinds.Request, form)) bytes.now)) }
+{
+    let start = read_control(alloc, limits, bytes)?;
+    match read_parts(alloc, reader, form, behind(bytes, start.taken)) {
+        Ok(Parts { fields, tail }) => {
+            let (omitted, padding) = (tail.omitted, tail.padding);
+            match Message::request(start.control, fields, tail.content, tail.trailers) {
+                Ok(message) => Ok(Whole {
+                    message,
+                    omitted,
+                    padding,
+                }),
+                Err(_) => unreachable!(),
+            }
+        }
+        Err(fault) => Err(fault.behind(start.taken)),
+    }
+}
+
+/// Reads a response behind its framing number (RFC 9292, section 3.1).
+fn read_response(
+    alloc: Global,
+    limits: &Limits,
+    reader: &mut SectionReader,
+    form: Form,
+    bytes: &[u8],
+) -> Result<Whole, Fault>
+    requires short { length bytes.now ≤ 2 ^ 40 }
+    requires limits { reader.old.limits ≡ limits.now }
+    ensures whole { IfOk result (λ read. IsText (FramedOf limits.now kinds.Response form read.message read.omitted read.padding) bytes.now) }
+    ensures stops { IfErr result (AtStop (Stops (IsAfterFraming limits.now (kinds.Response, form)) (IsAfterFraming no_bounds (kinds.Response, form)) bytes.now)) }
+{
+    let start = read_opening(alloc, limits.interims(), reader, form, bytes)?;
+    match read_parts(alloc, reader, form, behind(bytes, start.taken)) {
+        Ok(Parts { fields, tail }) => {
+            let (omitted, padding) = (tail.omitted, tail.padding);
+            match Message::response(
+                start.interims,
+                start.status,
+                fields,
+                tail.content,
+                tail.trailers,
+            ) {
+                Ok(message) => Ok(Whole {
+                    message,
+                    omitted,
+                    padding,
+                }),
+                Err(_) => unreachable!(),
+            }
+        }
+        Err(fault) => Err(fault.behind(start.taken)),
+    }
+}
+
+/// Reads a message behind its framing number.
+fn read_framed(
+    alloc: Global,
+    limits: &Limits,
+    kind: Kind,
+    form: Form,
+    bytes: &[u8],
+) -> Result<Whole, Fault>
+    requires { length bytes.now ≤ 2 ^ 40 }
+    ensures whole { IfOk result (λ read. IsText (FramedOf limits.now kind form read.message read.omitted read.padding) bytes.now) }
+    ensures stops { IfErr result (AtStop (Stops (IsAfterFraming limits.now (kind, form)) (IsAfterFraming no_bounds (kind, form)) bytes.now)) }
+{
+    let mut reader = SectionReader::new(alloc, limits)?;
+    match kind {
+        Kind::Request => read_request(alloc, limits, &mut reader, form, bytes),
+        Kind::Response => read_response(alloc, limits, &mut reader, form, bytes),
+    }
+}
+
+/// Reads a message that is all of the bytes.
+pub fn read_whole(alloc: Global, limits: &Limits, bytes: &[u8]) -> Result<Whole, Fault>
+    requires { length bytes.now ≤ 2 ^ 40 }
+    ensures whole { IfOk result (λ read. SpellsBytes limits.now read.message read.omitted read.padding bytes.now) }
+    ensures stops { IfErr result (AtStop (Stops (IsMessageText limits.now) (IsMessageText no_bounds) bytes.now)) }
+{
+    // Within the limits there is a message at all.
+    let part = limits.part();
+    prove!(part >= 1);
+    let framing = read_framing(bytes)?;
+    let rest = behind(bytes, framing.taken);
+    match read_framed(alloc, limits, framing.kind, framing.form, rest) {
+        Ok(read) => Ok(read),
+        Err(fault) => Err(fault.behind(framing.taken)),
+    }
+}
