@@ -20,3 +20,4 @@ pub mod Heads
 pub mod Openings
 pub mod Messages
 pub mod Inputs
+pub mod Existing

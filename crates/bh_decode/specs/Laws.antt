@@ -14,6 +14,10 @@ PrefixesAreViable = (L : Bounds) (front back : List ℕ) → IsViable L (front +
 abbrev pub OneAnswer : Type 0
 OneAnswer = (L : Bounds) (bytes : List ℕ) (a b : Answer) → IsAnswer L bytes a → IsAnswer L bytes b → a ≡ b
 
+-- No input is without an answer.
+abbrev pub SomeAnswer : Type 0
+SomeAnswer = (L : Bounds) (bytes : List ℕ) → ((a : Answer) → IsAnswer L bytes a → ⊥) → ⊥
+
 -- Whatever follows a refused byte, the answer is the same.
 abbrev pub FirstRefusedByte : Type 0
 FirstRefusedByte = (L : Bounds) (bytes others : List ℕ) (at : ℕ) (part : Part) → at < length others → take (at + 1) others ≡ take (at + 1) bytes

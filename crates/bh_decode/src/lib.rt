@@ -19,7 +19,7 @@ mod stop;
 mod tail;
 mod whole;
 
-pub use laws::{first_refused_byte, one_answer, prefixes_are_viable};
+pub use laws::{first_refused_byte, one_answer, prefixes_are_viable, some_answer};
 pub use spelling::{End, ReadError, Spelling, read_message, read_spelling};
 
 #[cfg(test)]
