@@ -1,5 +1,5 @@
 -- Chunks, one after the other.
-use Rattle.std.proofs.Common.{◌≡◌, ◌<◌, ◌≤◌, ◌+◌, ◌⊎◌, ◌^◌, ℕ, List, [], ◌∷◌, ◌++◌, length, take, drop, All, refl, sym, ap, ap₂, subst, ◌∙◌, append_assoc, append-nil, take-append-drop, arith, inl, inr, true, false, eqb, eqb-true}
+use Rattle.std.proofs.Common.{◌≡◌, ◌<◌, ◌≤◌, ◌+◌, ◌⊎◌, ℕ, List, [], ◌∷◌, ◌++◌, length, take, drop, All, refl, sym, ap, ap₂, subst, ◌∙◌, append_assoc, append-nil, take-append-drop, arith, inl, inr, true, false, eqb, eqb-true}
 use Rattle.std.specs.List.{concat}
 use Rattle.std.proofs.lemmas.List.{length-append, length-drop}
 use Rattle.std.proofs.lemmas.List.Elements.{All-nil, All-cons, All-append, All-head, All-tail, All-push}
@@ -10,10 +10,9 @@ use Rattle.bh_spec.proofs.Reading.{bytes_of-append}
 use Rattle.bh_control.specs.Pieces.{IsText, Ends}
 use Rattle.bh_control.proofs.Pieces.{IsOnce}
 use Rattle.bh_decode.specs.declared.stop.Stop.{Stop}
-use Rattle.bh_decode.specs.declared.stop.Stop.TheVariants.{Dead, Limit, Ended}
 use Rattle.bh_decode.specs.Grammar.{RunOf, BodyOf}
-use Rattle.bh_decode.specs.Stops.{SomeOf, StopsThing, stop_behind, IsStopWithin}
-use Rattle.bh_decode.proofs.Contexts.{Context, context_here, context_on, context_behind, context_same, once_of, SomeThen, Follows}
+use Rattle.bh_decode.specs.Stops.{SomeOf, StopsThing, stop_behind}
+use Rattle.bh_decode.proofs.Contexts.{Context, context_on, context_behind, context_same, once_of, SomeThen, Follows}
 use Rattle.bh_decode.proofs.Fronts.{length_front, split_more}
 use Rattle.bh_decode.proofs.Runs.{runs_once, run_long}
 use Rattle.bh_decode.proofs.Rests.{body_once, some_body}
@@ -136,20 +135,6 @@ pub record Chunked (content bytes : List ℕ) (taken : ℕ) : Type 0 where
   pub same : bytes_of text ≡ take taken bytes
   pub context : Context (SomeOf (BodyOf Indeterminate)) (SomeOf (BodyOf Indeterminate)) (take taken bytes) 0
 
-pub no_chunks : (bytes : List ℕ) → Chunked [] bytes 0
-no_chunks bytes = record {
-  within = omega arith;
-  few = omega arith;
-  chunks = [];
-  joined = refl;
-  some = All-nil _;
-  small = All-nil _;
-  text = [];
-  each = refl;
-  same = refl;
-  context = context_here IsChunks;
-}
-
 concat_push : (chunks : List (List ℕ)) (c : List ℕ) → concat (chunks ++ c ∷ []) ≡ concat chunks ++ c
 concat_push [] c = append-nil c
 concat_push (x ∷ chunks) c = ap (λ (w : List ℕ). x ++ w) (concat_push chunks c) ∙ sym (append_assoc x (concat chunks) c)
@@ -195,11 +180,6 @@ chunks_stop content bytes taken stop k h =
     let there = thing_behind IsChunks IsChunks IsChunks IsChunks (once_of (BodyOf Indeterminate) (body_once Indeterminate)) (take taken bytes) (drop taken bytes) 0 0 k.context k.context stop here in
     subst (λ (n : ℕ). StopsThing IsChunks IsChunks bytes (stop_behind n stop)) (length_front bytes taken k.within)
     (subst (λ (x : List ℕ). StopsThing IsChunks IsChunks x (stop_behind (length (take taken bytes)) stop)) (take-append-drop taken bytes) there)
-
-pub stop_within : (R S : Text → Type 0) (bytes : List ℕ) (taken : ℕ) (stop : Stop) → taken ≤ length bytes → length bytes ≤ 2 ^ 40 → StopsThing R S (drop taken bytes) stop → IsStopWithin taken stop
-stop_within R S bytes taken (Dead at part) within short h = omega (arith, h.refused.inside, length-drop taken bytes, within, short)
-stop_within R S bytes taken (Limit at part) within short h = omega (arith, h.refused.inside, length-drop taken bytes, within, short)
-stop_within R S bytes taken (Ended part) within short h = tt
 
 pub is_none : (c : List ℕ) → true ≡ eqb (length c) 0 → c ≡ []
 is_none [] e = refl

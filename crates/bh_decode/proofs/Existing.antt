@@ -1,25 +1,20 @@
 -- No input is without an answer.
-use Rattle.std.proofs.Common.{◌≡◌, ◌<◌, ◌≤◌, ◌+◌, ℕ, zero, suc, List, [], ◌∷◌, ◌++◌, length, take, Option, Some, None, refl, sym, ap, subst, ◌∙◌, arith, inl, inr}
+use Rattle.std.proofs.Common.{◌≡◌, ◌<◌, ◌≤◌, ◌+◌, ℕ, zero, suc, List, [], ◌∷◌, ◌++◌, length, take, Option, Some, None, refl, sym, subst, arith, inl, inr}
 use Rattle.std.proofs.lemmas.Bool.{cases_lt}
 use Rattle.bh_spec.specs.declared.Part.TheVariants as parts
 use Rattle.bh_spec.specs.declared.Form.TheVariants.{Known}
 use Rattle.bh_spec.specs.declared.Kind.TheVariants.{Response}
 use Rattle.bh_spec.specs.declared.Refusal.TheVariants.{Dead, Limit, Ended, TooLong}
 use Rattle.bh_spec.specs.declared.Width.TheVariants.{One}
-use Rattle.bh_spec.specs.Bounds.{Bounds, IsWithin, no_bounds}
+use Rattle.bh_spec.specs.Bounds.{Bounds, IsWithin}
 use Rattle.bh_spec.specs.Texts.{mark, bytes_of}
 use Rattle.bh_spec.specs.Viable.{IsViable}
 use Rattle.bh_spec.specs.Answers.{Answer, whole, refused, IsRefusedAt, IsAnswer}
 use Rattle.bh_spec.proofs.Longer.{some_next}
 use Rattle.bh_control.proofs.Pieces.{take_all}
-use Rattle.bh_decode.specs.Grammar.{IsMessageText}
 use Rattle.bh_decode.specs.Laws.{SomeAnswer}
-use Rattle.bh_decode.proofs.Grammars.{framed_message, some_response}
+use Rattle.bh_decode.proofs.Grammars.{zero_within, framed_message, some_response}
 use Rattle.bh_decode.proofs.Lifted.{viable_of}
-
-nothing_within : (most : Option ℕ) → IsWithin most 0
-nothing_within None = tt
-nothing_within (Some most) = omega arith
 
 one_less : (most : Option ℕ) (k : ℕ) → IsWithin most (suc k) → IsWithin most k
 one_less None k h = tt
@@ -28,7 +23,7 @@ one_less (Some most) k h = omega (arith, h)
 -- some message has a text, so nothing begins one
 nothing_viable : (L : Bounds) → IsViable L []
 nothing_viable L =
-    let r = some_response L Known 0 (nothing_within L.interims) in
+    let r = some_response L Known 0 (zero_within L.interims) in
     let number = mark parts.Framing (1 ∷ []) in
     let text = number ++ r.0 in
     viable_of L [] (record {

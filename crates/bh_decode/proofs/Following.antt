@@ -18,7 +18,7 @@ use Rattle.bh_control.specs.Control.{ControlOf}
 use Rattle.bh_control.specs.Statuses.{StatusOf}
 use Rattle.bh_decode.specs.Grammar.{HeadersOf, IsRestText, IsAfterStart, IsResponseText, IsAfterFraming, IsFramed, status_left, AfterStatus, TrailersOf, IsPaddingText, IsAfterContent, BodyOf}
 use Rattle.bh_decode.proofs.Contexts.{Follows}
-use Rattle.bh_decode.proofs.Grammars.{some_headers, some_rest, some_after_start, some_response}
+use Rattle.bh_decode.proofs.Grammars.{zero_within, some_headers, some_rest, some_after_start, some_response}
 use Rattle.bh_decode.proofs.Rests.{some_padding}
 
 -- ---- within the limits, and so without
@@ -86,10 +86,6 @@ number_text part n small = record { width = One; fits = omega (arith, small); sp
 string_text : (long part : Part) (bytes : List ℕ) → length bytes < 64 → IsString long part bytes (mark long (vi (length bytes) One) ++ mark part bytes)
 string_text long part bytes small = (mark long (vi (length bytes) One), mark part bytes, number_text long (length bytes) small, refl, refl)
 
-nothing_within : (most : Option ℕ) → IsWithin most 0
-nothing_within None = tt
-nothing_within (Some most) = omega arith
-
 some_control : (L : Bounds) → IsWithin L.part 1 → (t : Text) × ControlOf L least_control t
 some_control L one = (
   _,
@@ -119,8 +115,8 @@ some_control L one = (
       );
       method_within = one;
       scheme_within = one;
-      authority_within = nothing_within L.part;
-      path_within = nothing_within L.part;
+      authority_within = zero_within L.part;
+      path_within = zero_within L.part;
     };
   },
 )
@@ -130,7 +126,7 @@ after_framing L one (Request, form) t h =
     let c = some_control L one in
     let s = some_after_start L form in
     (c.0 ++ s.0, (least_control, (c.0, s.0, c.1, s.1, refl)))
-after_framing L one (Response, form) t h = some_response L form 0 (nothing_within L.interims)
+after_framing L one (Response, form) t h = some_response L form 0 (zero_within L.interims)
 
 pub after_control : (L : Bounds) (form : Form) → Follows (ControlOf L) (λ (c : Control). IsAfterStart L form)
 after_control L form c t h = some_after_start L form

@@ -1,23 +1,20 @@
 -- The framing number, and statuses.
-use Rattle.std.proofs.Common.{◌≡◌, ℕ, zero, suc, List, [], ◌∷◌, ◌++◌, length, take, Option, refl, sym, ap, subst, ◌∙◌, append-nil, arith}
+use Rattle.std.proofs.Common.{◌≡◌, ℕ, zero, suc, List, [], ◌∷◌, ◌++◌, length, Option, sym, ap, subst, ◌∙◌, append-nil, arith}
 use Rattle.std.proofs.lemmas.List.{map-append}
 use Rattle.bh_spec.specs.declared.Part.{Part}
 use Rattle.bh_spec.specs.declared.Part.TheVariants as parts
-use Rattle.bh_spec.specs.declared.Form.{Form}
 use Rattle.bh_spec.specs.declared.Form.TheVariants.{Known, Indeterminate}
-use Rattle.bh_spec.specs.declared.Kind.{Kind}
 use Rattle.bh_spec.specs.declared.Kind.TheVariants.{Request, Response}
 use Rattle.bh_spec.specs.Integers.{vi}
-use Rattle.bh_spec.specs.Spelling.{framing}
 use Rattle.bh_spec.specs.Texts.{Text, mark, bytes_of, IsNumber}
 use Rattle.bh_spec.proofs.Written.{unmark}
-use Rattle.bh_control.specs.Pieces.{IsNext, Ends, GoesOn}
+use Rattle.bh_control.specs.Pieces.{IsNext, GoesOn}
+use Rattle.bh_control.proofs.Pieces.{take_all}
 use Rattle.bh_control.specs.Statuses.{StatusOf}
 use Rattle.bh_decode.specs.declared.stop.Stop.{Stop}
 use Rattle.bh_decode.specs.Grammar.{IsFramed}
 use Rattle.bh_decode.specs.Numbers.{NumberOf}
 use Rattle.bh_decode.specs.Stops.{SomeOf, IsCutThing, StopsThing}
-use Rattle.bh_decode.proofs.Fronts.{ends_same}
 use Rattle.bh_decode.proofs.Stopped.{Same, thing_same}
 
 -- ---- the framing number
@@ -43,10 +40,6 @@ pub framing_stops : (bytes : List ℕ) (stop : Stop) → StopsThing (SomeOf (Num
 framing_stops bytes stop h =
     thing_same (SomeOf (NumberOf parts.Framing 3)) (SomeOf IsFramed) (SomeOf (NumberOf parts.Framing 3)) (SomeOf IsFramed) framed_same framed_same bytes stop h
 
-pub framing_ends : (kind : Kind) (form : Form) (n : ℕ) (bytes : List ℕ) (taken : ℕ) → n ≡ framing kind form → Ends (NumberOf parts.Framing 3 n) [] bytes taken → Ends (IsFramed (kind, form)) [] bytes taken
-framing_ends kind form n bytes taken e h =
-    ends_same (NumberOf parts.Framing 3 n) (IsFramed (kind, form)) (λ t s. subst (λ (k : ℕ). IsNumber parts.Framing k t) e s.spelled) bytes taken h
-
 -- ---- a status
 
 -- a status that goes on behind bytes has a next byte
@@ -59,14 +52,10 @@ status_cut left bytes h = record { on = h; next = next h.begins.after h.begins.b
     number : IsNumber parts.Status status h.begins.text
     number = h.begins.spelled.1.spelled
 
-    all : (xs : List ℕ) → take (length xs) xs ≡ xs
-    all [] = refl
-    all (x ∷ xs) = ap (λ (ys : List ℕ). x ∷ ys) (all xs)
-
     next : (after : List ℕ) → bytes_of h.begins.text ≡ bytes ++ after → IsNext (SomeOf (StatusOf left)) bytes parts.Status
     next [] e = absurd (h.unfinished (length bytes) (record {
       within = omega arith;
-      whole = record { text = h.begins.text; spelled = h.begins.spelled; same = e ∙ append-nil bytes ∙ sym (all bytes) };
+      whole = record { text = h.begins.text; spelled = h.begins.spelled; same = e ∙ append-nil bytes ∙ sym (take_all bytes) };
     }))
     next (byte ∷ after) e =
         let these : vi status number.width ≡ bytes ++ (byte ∷ after) = sym (unmark parts.Status (vi status number.width)) ∙ sym (ap bytes_of number.spelled) ∙ e in

@@ -251,7 +251,7 @@ one_before L form k within t (status, (x, y, st, inl (small, (fields, (u, v, hea
 
 -- ---- something may follow
 
-zero_within : (o : Option ℕ) → IsWithin o 0
+pub zero_within : (o : Option ℕ) → IsWithin o 0
 zero_within None = tt
 zero_within (Some most) = omega arith
 

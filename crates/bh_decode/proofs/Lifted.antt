@@ -45,10 +45,10 @@ pub of_spelled : (L : Bounds) (m : Message) (o : Omitted) (z : ℕ) (bytes : Lis
 of_spelled L m o z bytes h = record { text = h.0; spelled = (m, o, z, h.1); same = h.2 }
 
 -- the first bytes, up to one of the piece
-front : (done piece : List ℕ) (k : ℕ) → take (length done + k) (done ++ piece) ≡ done ++ take k piece
+pub front : (done piece : List ℕ) (k : ℕ) → take (length done + k) (done ++ piece) ≡ done ++ take k piece
 front done piece k = take-append-add done piece k
 
-front_more : (done piece : List ℕ) (k : ℕ) → take (length done + k + 1) (done ++ piece) ≡ done ++ take (k + 1) piece
+pub front_more : (done piece : List ℕ) (k : ℕ) → take (length done + k + 1) (done ++ piece) ≡ done ++ take (k + 1) piece
 front_more done piece k = let e : length done + k + 1 ≡ length done + (k + 1) = omega arith in ap (λ (n : ℕ). take n (done ++ piece)) e ∙ front done piece (k + 1)
 
 refused_in : (L : Bounds) (R : Text → Type 0) (done piece : List ℕ) (k n : ℕ) (part : Part) → Context (IsMessageText L) R done n → IsRefused R [] piece k part

@@ -6,7 +6,7 @@ use Rattle.bh_spec.specs.declared.Kind.{Kind}
 use Rattle.bh_spec.specs.declared.Kind.TheVariants.{Request, Response}
 use Rattle.bh_spec.specs.declared.Omitted.{Omitted}
 use Rattle.bh_spec.specs.Bounds.{Bounds, IsWithin, no_bounds}
-use Rattle.bh_spec.specs.Messages.{Field, Control, Interim, Message, request, response, IsValid}
+use Rattle.bh_spec.specs.Messages.{Field, Control, Interim, Message, request, response}
 use Rattle.bh_spec.specs.Spelling.{framing}
 use Rattle.bh_spec.specs.Texts.{IsNumber}
 use Rattle.bh_spec.specs.Viable.{SpellsBytes}
@@ -66,12 +66,6 @@ request_whole L form c fields content trailers m omitted padding bytes taken e c
       same = h.same;
     })
 
-pub request_valid : (L : Bounds) (form : Form) (c : Control) (fields : List Field) (content : List ℕ) (trailers : List Field) (omitted : Omitted) (padding : ℕ) (bytes : List ℕ) (taken : ℕ)
-    → Ends (ControlOf L c) [] bytes taken → IsText (AfterOf L form fields content trailers omitted padding) (drop taken bytes)
-    → IsValid (record { start = request c; fields = fields; content = content; trailers = trailers })
-request_valid L form c fields content trailers omitted padding bytes taken control after =
-    record { start = control.whole.spelled.valid; fields = after.spelled.valid; content = after.spelled.spelled.3.bytes; trailers = after.spelled.spelled.3.valid }
-
 -- ---- responses
 
 pub response_fault : (L : Bounds) (form : Form) (bytes : List ℕ) (taken : ℕ) (fault : Fault) → taken ≤ length bytes
@@ -98,13 +92,6 @@ response_whole L form interims status fields content trailers m omitted padding 
       };
       same = h.same;
     })
-
-pub response_valid : (L : Bounds) (form : Form) (interims : List Interim) (status : ℕ) (fields : List Field) (content : List ℕ) (trailers : List Field) (omitted : Omitted) (padding : ℕ) (bytes : List ℕ) (taken : ℕ)
-    → Ends (OpeningOf L form interims status) [] bytes taken → IsText (AfterOf L form fields content trailers omitted padding) (drop taken bytes)
-    → IsValid (record { start = response interims status; fields = fields; content = content; trailers = trailers })
-response_valid L form interims status fields content trailers omitted padding bytes taken opening after =
-    let o = opening.whole.spelled in
-    record { start = record { each = o.each; low = o.low; high = o.high }; fields = after.spelled.valid; content = after.spelled.spelled.3.bytes; trailers = after.spelled.spelled.3.valid }
 
 -- ---- with the framing number
 

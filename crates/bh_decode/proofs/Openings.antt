@@ -1,5 +1,5 @@
 -- Interim responses, one after the other, and the final status.
-use Rattle.std.proofs.Common.{◌≡◌, ◌<◌, ◌≤◌, ◌+◌, ℕ, suc, List, [], ◌∷◌, ◌++◌, length, take, drop, map, All, Option, Some, None, refl, sym, ap, ap₂, subst, ◌∙◌, append_assoc, append-nil, arith}
+use Rattle.std.proofs.Common.{◌≡◌, ◌<◌, ◌≤◌, ◌+◌, ℕ, suc, List, [], ◌∷◌, ◌++◌, length, take, drop, map, All, Option, None, refl, sym, ap, ap₂, subst, ◌∙◌, append_assoc, append-nil, arith}
 use Rattle.bh_spec.specs.declared.Part.{Part}
 use Rattle.bh_spec.specs.declared.Part.TheVariants as parts
 use Rattle.bh_spec.specs.declared.Form.{Form}
@@ -27,7 +27,7 @@ use Rattle.bh_decode.specs.Grammar.{HeadersOf, IsResponseText, IsAfterStart, sta
 use Rattle.bh_decode.specs.Stops.{SomeOf, Stops, StopsThing, stop_behind, fault_behind, AtStop}
 use Rattle.bh_decode.proofs.Contexts.{Context, context_here, context_on, SomeThen}
 use Rattle.bh_decode.proofs.Fronts.{split_more}
-use Rattle.bh_decode.proofs.Grammars.{headers_once, status_once, one_more, one_before}
+use Rattle.bh_decode.proofs.Grammars.{zero_within, headers_once, status_once, one_more, one_before}
 use Rattle.bh_decode.proofs.Heads.{headers_same}
 use Rattle.bh_decode.proofs.Phases.{IsInterimRest, behind_final, behind_interim_status, behind_interim, stops_then}
 use Rattle.bh_decode.proofs.Stopped.{Same, stops_same, thing_same}
@@ -74,14 +74,10 @@ pub record Opened (L : Bounds) (form : Form) (interims : List held.Interim) (byt
   pub here : Context (IsResponseText L form 0) (IsResponseText L form (length interims)) (take taken bytes) 0
   pub anyway : Context (IsResponseText no_bounds form 0) (IsResponseText no_bounds form (length interims)) (take taken bytes) 0
 
-nothing_within : (most : Option ℕ) → IsWithin most 0
-nothing_within None = tt
-nothing_within (Some most) = omega arith
-
 pub none_opened : (L : Bounds) (form : Form) (bytes : List ℕ) → Opened L form [] bytes 0
 none_opened L form bytes = record {
   within = omega arith;
-  few = nothing_within L.interims;
+  few = zero_within L.interims;
   each = All-nil _;
   ended = All-nil _;
   text = [];

@@ -1,6 +1,5 @@
 -- Each phase of a message: what was read, and what may stand behind it.
-use Rattle.std.proofs.Common.{◌≡◌, ◌<◌, ◌≤◌, ℕ, suc, List, [], ◌∷◌, length, take, refl, sym, ap, subst, append-nil, arith, inl, inr}
-use Rattle.bh_spec.specs.declared.Part.{Part}
+use Rattle.std.proofs.Common.{◌<◌, ◌≤◌, ℕ, suc, List, [], subst, append-nil, arith, inl, inr}
 use Rattle.bh_spec.specs.declared.Form.{Form}
 use Rattle.bh_spec.specs.declared.Kind.{Kind}
 use Rattle.bh_spec.specs.declared.Kind.TheVariants.{Request}
@@ -9,10 +8,10 @@ use Rattle.bh_spec.specs.Messages.{Field, Control}
 use Rattle.bh_spec.specs.Texts.{Text}
 use Rattle.bh_control.specs.Control.{ControlOf}
 use Rattle.bh_control.specs.Statuses.{StatusOf}
-use Rattle.bh_control.specs.Pieces.{IsText, IsNext, GoesOn}
+use Rattle.bh_control.specs.Pieces.{IsText}
 use Rattle.bh_decode.specs.declared.stop.Stop.{Stop}
 use Rattle.bh_decode.specs.declared.stop.Stop.TheVariants.{Dead, Limit, Ended}
-use Rattle.bh_decode.specs.Stops.{SomeOf, IsCut, Stops, StopsThing}
+use Rattle.bh_decode.specs.Stops.{SomeOf, Stops, StopsThing}
 use Rattle.bh_decode.specs.Grammar.{IsMessageText, HeadersOf, IsRestText, IsAfterStart, IsResponseText, IsAfterFraming, IsFramed, status_left, AfterStatus}
 use Rattle.bh_decode.proofs.Contexts.{Context, context_on, context_behind, context_same, AreOnce, SomeThen, Follows, next_then, dead_then, limit_then, unfinished_then}
 use Rattle.bh_decode.proofs.Grammars.{message_framed, framed_message, framed_once, control_once, headers_once, status_once, one_more, one_before}
@@ -70,16 +69,6 @@ pub behind_interim : (L : Bounds) (form : Form) (k : ℕ) (fields : List Field) 
 behind_interim L form k fields bytes h = context_behind (HeadersOf L form) (λ (fs : List Field). IsResponseText L form (suc k)) (headers_once L form) fields bytes h
 
 -- ---- what stops inside a thing stops inside what begins with it
-
-pub cut_of : (R : Text → Type 0) (bytes : List ℕ) (part : Part) → GoesOn R [] bytes → IsNext R bytes part → IsCut R bytes part
-cut_of R bytes part on next = record {
-  next = next;
-  unfinished = λ h. on.unfinished (length bytes) (record { within = omega arith; whole = subst (IsText R) (sym (all bytes)) h });
-}
-  where
-    all : (xs : List ℕ) → take (length xs) xs ≡ xs
-    all [] = refl
-    all (x ∷ xs) = ap (λ (ys : List ℕ). x ∷ ys) (all xs)
 
 pub stops_then : {I : Type 0} (A S B T : I → Text → Type 0) → AreOnce A → AreOnce B → Follows A S → Follows B T → ((i : I) (t : Text) → A i t → B i t) → (bytes : List ℕ) (stop : Stop)
     → StopsThing (SomeOf A) (SomeOf B) bytes stop → Stops (SomeThen A S) (SomeThen B T) bytes stop

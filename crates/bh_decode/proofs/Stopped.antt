@@ -1,6 +1,5 @@
 -- A stop behind what was read is a stop of the whole; and a stop of a message is the answer for an input.
-use Rattle.std.proofs.Common.{◌≡◌, ◌≤◌, ◌+◌, ℕ, List, [], ◌∷◌, ◌++◌, length, take, zero-add, Option, Some, None, sym, ap, subst, ◌∙◌, arith}
-use Rattle.std.proofs.Math.Seq.{take-append-add}
+use Rattle.std.proofs.Common.{◌≤◌, ◌+◌, ℕ, List, [], ◌∷◌, ◌++◌, length, take, zero-add, Option, Some, None, sym, subst, arith}
 use Rattle.std.proofs.lemmas.List.{length-append}
 use Rattle.bh_spec.specs.declared.Part.{Part}
 use Rattle.bh_spec.specs.declared.Refusal.TheVariants as refusals
@@ -14,13 +13,7 @@ use Rattle.bh_decode.specs.Grammar.{IsMessageText}
 use Rattle.bh_decode.specs.Stops.{SomeOf, StopsThing, Stops, refusal_of, stop_behind}
 use Rattle.bh_control.proofs.Pieces.{IsOnce, next_unfinished}
 use Rattle.bh_decode.proofs.Contexts.{Context, context_here, AreOnce, SomeThen, Follows, next_then, dead_then, limit_then}
-use Rattle.bh_decode.proofs.Lifted.{dead_in, limit_in, ended_in}
-
-front : (done piece : List ℕ) (k : ℕ) → take (length done + k) (done ++ piece) ≡ done ++ take k piece
-front done piece k = take-append-add done piece k
-
-front_more : (done piece : List ℕ) (k : ℕ) → take (length done + k + 1) (done ++ piece) ≡ done ++ take (k + 1) piece
-front_more done piece k = let e : length done + k + 1 ≡ length done + (k + 1) = omega arith in ap (λ (n : ℕ). take n (done ++ piece)) e ∙ front done piece (k + 1)
+use Rattle.bh_decode.proofs.Lifted.{front, front_more, dead_in, limit_in, ended_in}
 
 refused_behind : (M R : Text → Type 0) (done piece : List ℕ) (n k : ℕ) (part : Part) → Context M R done n → IsRefused R [] piece k part → IsRefused M [] (done ++ piece) (length done + k) part
 refused_behind M R done piece n k part c h = record {

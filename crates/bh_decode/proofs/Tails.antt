@@ -1,11 +1,11 @@
 -- What a reader says of what stands behind the header section.
-use Rattle.std.proofs.Common.{◌≡◌, ◌<◌, ◌≤◌, ◌^◌, ℕ, List, [], ◌++◌, length, take, drop, replicate, All, refl, sym, ap, ap₂, subst, ◌∙◌, append-nil, take-append-drop, zero-add, arith}
+use Rattle.std.proofs.Common.{◌≡◌, ◌≤◌, ◌^◌, ℕ, List, [], ◌++◌, length, take, drop, replicate, All, refl, sym, ap, ap₂, subst, ◌∙◌, append-nil, take-append-drop, zero-add, arith}
 use Rattle.std.proofs.lemmas.List.{length-drop, length-map}
 use Rattle.std.proofs.lemmas.List.Elements.{All-nil}
 use Rattle.bh_spec.specs.declared.Part.{Part}
 use Rattle.bh_spec.specs.declared.Part.TheVariants as parts
 use Rattle.bh_spec.specs.declared.Form.{Form}
-use Rattle.bh_spec.specs.declared.Omitted.TheVariants.{Nothing, Trailers, Both}
+use Rattle.bh_spec.specs.declared.Omitted.TheVariants.{Nothing, Trailers}
 use Rattle.bh_spec.specs.Bounds.{Bounds, no_bounds}
 use Rattle.bh_spec.specs.Messages.{Field, IsRegularField}
 use Rattle.bh_spec.specs.Texts.{Text, IsRun, ◌then◌}
@@ -116,17 +116,6 @@ body_stop L form bytes stop some h =
     same (stops.Dead at part) = ap (λ (n : ℕ). stops.Dead n part) (zero-add at)
     same (stops.Limit at part) = ap (λ (n : ℕ). stops.Limit n part) (zero-add at)
     same (stops.Ended part) = refl
-
-pub both_omitted : (L : Bounds) (form : Form) (content bytes : List ℕ) (fields : List Field) → bytes ≡ [] → content ≡ bytes → fields ≡ [] → IsText (RestOf L form content fields Both 0) bytes
-both_omitted L form content bytes fields none same empty = record {
-  text = [];
-  spelled = record {
-    bytes = subst (λ (x : List ℕ). All (λ byte. byte < 256) x) (sym (same ∙ none)) (All-nil _);
-    valid = subst (λ (x : List Field). All IsRegularField x) (sym empty) (All-nil IsRegularField);
-    spelled = (same ∙ none, empty, refl, refl);
-  };
-  same = sym none;
-}
 
 pub trailers_omitted : (L : Bounds) (form : Form) (content bytes : List ℕ) (fields : List Field) (taken : ℕ) → Ends (BodyOf form content) [] bytes taken → drop taken bytes ≡ [] → fields ≡ []
     → IsText (RestOf L form content fields Trailers 0) bytes
