@@ -22,7 +22,7 @@ pub record PortView : Type 0 where
   pub room : ℕ
   pub calls : ℕ
 
--- a counter after one call more; it stays at its last value (and, in a law about any number, at one above that)
+-- a counter after one call more; it stays at its last value (and, in a law about any number, at any above it)
 abbrev pub next : ℕ → ℕ
 next n = max n (min (n + 1) (2 ^ 64 - 1))
 

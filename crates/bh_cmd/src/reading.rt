@@ -4,6 +4,7 @@ ghost use Rattle.bh_spec.specs.Messages.{Field, IsValid};
 ghost use Rattle.bh_spec.specs.Fronts.{StartsWith, StartsWithNumber, HasNoNumber, StartsWithString, HasNoString, StartsWithLine, HasNoLine, HasLines, StartsWithSection, HasNoSection, HasNoRequest, HasTail, HasNoTail};
 ghost use Rattle.bh_spec.specs.Spelling.{IsRequest};
 ghost use Rattle.bh_model.specs.Values.{control_of};
+ghost use Rattle.bh_cmd.specs.declared.reading.ReadError.TheVariants as errors;
 ghost use Rattle.bh_cmd.specs.Requests.{default_bounds, IsKnownRequest, IsNoKnownRequest, OnRefused, AreShort, request_message, lent_control};
 
 use bh_base::NoMemory;
@@ -39,6 +40,8 @@ pub enum ReadError {
 }
 
 impl From<NoMemory> for ReadError {
+    ghost from_gives = { λ _ error. error ≡ errors.NoMemory };
+
     fn from(_: NoMemory) -> Self {
         ReadError::NoMemory
     }

@@ -32,7 +32,7 @@ part_of (name_rule place before name) = Name
 part_of (value_rule value) = Value
 part_of (ended_rule making) = Name
 
--- one of the five names of control data (RFC 9113, section 8.3)
+-- one of the five names of control data (RFC 9292, section 3.6)
 abbrev pub IsControlName : List ℕ → Type 0
 IsControlName name = (name ≡ codes ":method") ⊎ ((name ≡ codes ":scheme") ⊎ ((name ≡ codes ":authority") ⊎ ((name ≡ codes ":path") ⊎ (name ≡ codes ":status"))))
 

@@ -37,7 +37,7 @@ pub fn is_authority(bytes: &[u8]) -> bool
     bytes.iter().all(|&byte| bh_base::is_authority(byte))
 }
 
-/// Whether the name is one of control data, which no field may have (RFC 9113, section 8.3).
+/// Whether the name is one of control data, which no field may have (RFC 9292, section 3.6).
 fn is_control_name(name: &[u8]) -> bool
     ensures { IsTrue result ↔ IsControlName name.now }
 {
