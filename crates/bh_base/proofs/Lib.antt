@@ -4,3 +4,4 @@ pub mod Fronts
 pub mod SinkCalls
 pub mod DoorCalls
 pub mod ShelfCalls
+pub mod SureCalls

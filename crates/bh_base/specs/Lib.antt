@@ -10,3 +10,6 @@ pub mod MemSinks
 pub mod InsideSink
 pub mod MemShelves
 pub mod InsideShelf
+pub mod SurePorts
+pub mod SureLaws
+pub mod InsideSure
