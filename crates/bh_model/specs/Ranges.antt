@@ -1,5 +1,5 @@
 -- The limits of a reader as bounds, and the range of each.
-use Rattle.std.specs.Prelude.{ℕ, ◌≤◌, ◌^◌, Some}
+use Rattle.std.specs.Prelude.{ℕ, ◌≡◌, ◌≤◌, ◌^◌, Some}
 use Rattle.bh_spec.specs.Bounds.{Bounds}
 
 abbrev pub bounds_of : ℕ → ℕ → ℕ → ℕ → Bounds
@@ -13,3 +13,16 @@ pub record AreInRange (part section interims input : ℕ) : Type 0 where
   pub interims_high : interims ≤ 255
   pub input_low : 1 ≤ input
   pub input_high : input ≤ 2 ^ 40
+
+-- the bounds are of four numbers in their ranges
+pub record AreLimits (L : Bounds) : Type 0 where
+  pub part : ℕ
+  pub section : ℕ
+  pub interims : ℕ
+  pub input : ℕ
+  pub same : L ≡ bounds_of part section interims input
+  pub range : AreInRange part section interims input
+
+-- the limits of a reader that is told none
+abbrev pub default_bounds : Bounds
+default_bounds = bounds_of 8192 65536 16 16777216
