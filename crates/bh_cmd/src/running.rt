@@ -1,13 +1,15 @@
 //! The commands.
 ghost use Rattle.std.specs.Prelude.{◌≡◌, ◌↔◌, IsTrue, IfSome, false};
 ghost use Rattle.bh_base.specs.Steps.{Rose};
-ghost use Rattle.bh_cmd.specs.Runs.{IsCommand, CanonFacts, CanonRun, Told, Completes};
+ghost use Rattle.bh_model.specs.Ranges.{default_bounds};
+ghost use Rattle.bh_canon.specs.Ends.{CanonRun, Told, Completes};
+ghost use Rattle.bh_cmd.specs.Exits.{EndsSo};
+ghost use Rattle.bh_cmd.specs.Runs.{IsCommand, CanonExit};
 
-use crate::deciding::{DecideError, decide};
-use crate::exits::{Early, Exit};
-use crate::gathering::{GatherError, gather};
-use crate::reading::INPUT;
-use bh_base::{Door, Port, Shelf, Sink, write_all};
+use crate::exits::Exit;
+use bh_base::{Door, Port, Shelf, Sink};
+use bh_canon::Engine;
+use bh_model::Limits;
 use std::alloc::Global;
 
 /// Whether the words are the one command `canon`.
@@ -20,28 +22,19 @@ fn is_canon(words: &[String]) -> bool
     }
 }
 
-/// Reads the port to its end, or until it has taken 65,537 bytes, decides, and then writes the canonical text.
+/// Makes the message that the port gives canonical, under the default limits.
 fn canon<P: Port>(alloc: Global, port: &mut P) -> Exit
-    ensures { CanonFacts P.read_step P.write_step P.left P.sent P.read_faults P.write_faults port.old result port.new }
+    ensures { CanonExit P.read_step P.write_step P.left P.sent P.read_faults P.write_faults port.old result port.new }
 {
-    match gather(alloc, port, INPUT) {
-        Ok(bytes) => match decide(alloc, &bytes) {
-            Ok(output) => match write_all(port, &output.text) {
-                Ok(()) => Exit::Done(Some(output.summary)),
-                Err(_) => Exit::WriteFault,
-            },
-            Err(DecideError::Refused(why)) => Exit::Refused(why),
-            Err(DecideError::NoMemory) => Exit::NoMemory,
-        },
-        Err(GatherError::ReadFault) => Exit::ReadFault,
-        Err(GatherError::TooLong) => Exit::Refused(Early::TooLong),
-        Err(GatherError::NoMemory) => Exit::NoMemory,
+    match Engine::new(alloc, &Limits::default()) {
+        Ok(mut engine) => Exit::from(engine.canon(alloc, port)),
+        Err(_) => Exit::NoMemory,
     }
 }
 
 /// Runs the command that the words name, which are the words behind the program's name. `canon` alone is one today: it reads
-/// `port` to its end and writes the canonical text of the request of known length that it has read; nothing goes to `errs`,
-/// and neither `door` nor `shelf` is asked.
+/// one message from `port`, within the default limits, and writes its canonical text to it; nothing goes to `errs`, and
+/// neither `door` nor `shelf` is asked.
 pub fn run<P: Port, E: Sink, D: Door, F: Shelf>(
     alloc: Global,
     words: &[String],
@@ -57,9 +50,9 @@ pub fn run<P: Port, E: Sink, D: Door, F: Shelf>(
     ensures unused { result ≡ Exit.Usage → port.new ≡ port.old }
 
     // What the port gave and got, by the bytes of its calls, and by what it tells of them.
-    ensures chain { IsCommand words.now → CanonRun P.read_step P.write_step port.old result port.new }
-    ensures told { IsCommand words.now → IfSome (P.left port.old) (λ input. Told result input (P.left port.new) (P.sent port.old) (P.sent port.new)) }
-    ensures complete { IsCommand words.now → IfSome (P.left port.old) (λ input. Completes result input (P.read_faults port.old) (P.read_faults port.new) (P.write_faults port.old) (P.write_faults port.new)) }
+    ensures chain { IsCommand words.now → EndsSo result (λ end. CanonRun default_bounds P.read_step P.write_step port.old end port.new) }
+    ensures told { IsCommand words.now → IfSome (P.left port.old) (λ input. EndsSo result (λ end. Told default_bounds end input (P.left port.new) (P.sent port.old) (P.sent port.new))) }
+    ensures complete { IsCommand words.now → IfSome (P.left port.old) (λ input. EndsSo result (λ end. Completes default_bounds end input (P.read_faults port.old) (P.read_faults port.new) (P.write_faults port.old) (P.write_faults port.new))) }
 
     // The faults.
     ensures read_fault { result ≡ Exit.ReadFault → Rose (P.read_faults port.old) (P.read_faults port.new) }

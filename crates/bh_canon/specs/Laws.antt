@@ -1,0 +1,24 @@
+-- Laws of what a call of `canon` says.
+use Rattle.std.specs.Prelude.{ℕ, ◌≡◌, ◌↔◌, List, ◌++◌, length}
+use Rattle.bh_spec.specs.declared.Summary.{Summary}
+use Rattle.bh_spec.specs.declared.Refusal.{Refusal}
+use Rattle.bh_spec.specs.declared.Omitted.TheVariants.{Nothing}
+use Rattle.bh_spec.specs.Bounds.{Bounds, IsWithin}
+use Rattle.bh_spec.specs.Answers.{refused, IsAnswer}
+use Rattle.bh_spec.specs.Reports.{summary}
+use Rattle.bh_model.specs.Ranges.{AreLimits}
+use Rattle.bh_canon.specs.Ends.{IsCanon, IsBeyond}
+
+-- Two inputs that are messages have equal canonical texts exactly where their messages are equal, whatever the limits of each.
+abbrev pub EqualTexts : Type 0
+EqualTexts = (K L : Bounds) → AreLimits K → AreLimits L → (one two : List ℕ) (s t : Summary) (x y : List ℕ) (a : IsCanon K one s x) (b : IsCanon L two t y)
+    → (x ≡ y) ↔ (a.message ≡ b.message)
+
+-- A refusal of one byte more than the limit of the input allows is that of every longer input.
+abbrev pub RefusedBeyond : Type 0
+RefusedBeyond = (L : Bounds) (bytes more : List ℕ) → IsBeyond L bytes → (refusal : Refusal) → IsAnswer L bytes (refused refusal) → IsAnswer L (bytes ++ more) (refused refusal)
+
+-- The canonical text of an input that is a message is its own canonical text, where it is within the limit of the input.
+abbrev pub CanonicalStays : Type 0
+CanonicalStays = (L : Bounds) → AreLimits L → (bytes : List ℕ) (s : Summary) (text : List ℕ) → (a : IsCanon L bytes s text) → IsWithin L.input (length text)
+    → IsCanon L text (summary a.message Nothing 0 (length text)) text

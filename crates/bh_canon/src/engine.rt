@@ -1,0 +1,99 @@
+//! The engine of `canon`.
+ghost use Rattle.std.specs.Prelude.{◌≡◌, ◌<◌, IfOk, IfSome, length};
+ghost use Rattle.bh_base.specs.Steps.{Rose};
+ghost use Rattle.bh_canon.specs.Ends.{CanonFacts, CanonRun, Told, Completes};
+
+use crate::deciding::decide;
+use crate::gathering::{GatherError, gather};
+use bh_base::{NoMemory, Port, write_all};
+use bh_decode::ReadError;
+use bh_model::{Limits, Refusal, Summary};
+use std::alloc::Global;
+use std::marker::Model;
+
+/// The bytes that one read asks for, at most.
+const READ: usize = 8192;
+
+/// How a call of `canon` ended.
+#[derive(Clone, Copy, Debug, PartialEq, Eq)]
+pub enum CanonEnd {
+    /// The input was one message within the limits and was read to its end, and its canonical text was written.
+    Done(Summary),
+    /// The input is refused; nothing was written.
+    Refused(Refusal),
+    /// A read failed; nothing was written.
+    ReadFault,
+    /// A write failed; the first bytes of the canonical text were written.
+    WriteFault,
+    /// Memory ran out; nothing was written.
+    NoMemory,
+}
+
+/// Makes a message canonical, by its limits. It is seen as these; each call begins anew.
+#[derive(Drop)]
+pub struct Engine {
+    limits: Limits,
+    buffer: Vec<u8>,
+}
+
+impl Model for Engine {
+    ghost use Rattle.std.specs.Prelude.{◌<◌, length};
+    ghost use Rattle.bh_spec.specs.Bounds.{Bounds};
+
+    ghost Value = { Bounds };
+
+    ghost view = { λ e. e.limits };
+
+    ghost invariant = { λ e. 0 < length e.buffer.items };
+}
+
+/// Reads the port to its end, or until it has taken one byte more than the limit allows, decides, and then writes.
+fn answer<P: Port>(alloc: Global, port: &mut P, limits: &Limits, buffer: &mut [u8]) -> CanonEnd
+    requires { 0 < length buffer.old }
+    ensures { CanonFacts limits.now P.read_step P.write_step P.left P.sent P.read_faults P.write_faults port.old result port.new }
+{
+    match gather(alloc, port, limits.input() as usize, buffer) {
+        Ok(bytes) => match decide(alloc, &bytes, limits) {
+            Ok(output) => match write_all(port, &output.text) {
+                Ok(()) => CanonEnd::Done(output.summary),
+                Err(_) => CanonEnd::WriteFault,
+            },
+            Err(ReadError::Refused(refusal)) => CanonEnd::Refused(refusal),
+            Err(ReadError::NoMemory) => CanonEnd::NoMemory,
+        },
+        Err(GatherError::ReadFault) => CanonEnd::ReadFault,
+        Err(GatherError::NoMemory) => CanonEnd::NoMemory,
+    }
+}
+
+impl Engine {
+    /// An engine with these limits, and the memory for its reads.
+    pub fn new(alloc: Global, limits: &Limits) -> Result<Engine, NoMemory>
+        ensures { IfOk result (λ engine. engine ≡ limits.now) }
+    {
+        let buffer = vec![in alloc; 0; READ]?;
+        Ok(Engine {
+            limits: *limits,
+            buffer,
+        })
+    }
+
+    /// Reads one message from `port` and writes its canonical text to it. It reads to the end, or until it has taken one byte
+    /// more than the limit of the input allows, decides, and then writes. The engine is ready for a new call after every end.
+    pub fn canon<P: Port>(&mut self, alloc: Global, port: &mut P) -> CanonEnd
+        ensures ready { self.new ≡ self.old }
+
+        // What the port gave and got, by the bytes of its calls, and by what it tells of them.
+        ensures chain { CanonRun self.old P.read_step P.write_step port.old result port.new }
+        ensures told { IfSome (P.left port.old) (λ input. Told self.old result input (P.left port.new) (P.sent port.old) (P.sent port.new)) }
+        ensures complete { IfSome (P.left port.old) (λ input. Completes self.old result input (P.read_faults port.old) (P.read_faults port.new) (P.write_faults port.old) (P.write_faults port.new)) }
+
+        // The faults.
+        ensures read_fault { result ≡ CanonEnd.ReadFault → Rose (P.read_faults port.old) (P.read_faults port.new) }
+        ensures write_fault { result ≡ CanonEnd.WriteFault → Rose (P.write_faults port.old) (P.write_faults port.new) }
+        ensures quiet_reads { (result ≡ CanonEnd.ReadFault → ⊥) → P.read_faults port.new ≡ P.read_faults port.old }
+        ensures quiet_writes { (result ≡ CanonEnd.WriteFault → ⊥) → P.write_faults port.new ≡ P.write_faults port.old }
+    {
+        answer(alloc, port, &self.limits, &mut self.buffer)
+    }
+}

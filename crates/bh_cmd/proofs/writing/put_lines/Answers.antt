@@ -1,9 +1,0 @@
-use Rattle.std.proofs.Common.{ℕ, List, ◌++◌, ◌∙◌, ap}
-use Rattle.bh_spec.specs.Canonical.{string}
-use Rattle.bh_cmd.proofs.Chunks.{line_more}
-use Rattle.bh_cmd.proofs.writing.put_lines.Goals as goal
-
-pub loop-i-preserved : goal.loop-i-preserved
-loop-i-preserved c =
-    line_more c.args.text.now.items c.loop-i.text.items c.put_string-in-loop-i.new.text.items c.args.fields.now.lines c.loop-i.i _ c.line.ensures.line c.loop-i.invariant
-    (c.in_ok-put_string-2.ensures ∙ ap (λ (x : List ℕ). x ++ string c.line.result.1.now) c.in_ok-put_string.ensures)
