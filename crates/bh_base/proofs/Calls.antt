@@ -1,5 +1,5 @@
 -- What the calls of a port in memory do to its fields.
-use Rattle.std.proofs.Common.{◌≡◌, ◌≤◌, ◌<◌, ◌+◌, ◌-◌, ℕ, Bool, true, false, ◌||◌, ◌&&◌, nat_eq, nat_lt, if◌then◌else◌, All, min, List, [], ◌∷◌, ◌++◌, length, take, drop, slice_range, Result, Ok, Err, Vec, vec_len, vec_capacity, refl, sym, ◌∙◌, ap, arith, length-append, length-take, length-drop, drop-drop, drop_at, ◌≢◌, ne_eqb, suc, zero, Some, slice_get, slice_index_or}
+use Rattle.std.proofs.Common.{◌≡◌, ◌≤◌, ◌+◌, ◌-◌, ℕ, Bool, true, false, ◌||◌, ◌&&◌, nat_eq, nat_lt, if◌then◌else◌, All, min, List, [], ◌∷◌, ◌++◌, length, take, drop, slice_range, Result, Ok, Err, Vec, vec_len, vec_capacity, refl, sym, ◌∙◌, ap, arith, length-append, length-take, length-drop, drop-drop, drop_at, ◌≢◌, ne_eqb, suc}
 use Rattle.std.proofs.lemmas.List.{map-append, drop-append-le, take-append-le, take_all}
 use Rattle.std.specs.declared.alloc.Global.{Global}
 use Rattle.bh_base.specs.declared.failed.Failed.{Failed}
@@ -154,10 +154,3 @@ sound_write p piece writes n sent log sound few part some sends long capacity lo
           (All-weaker (IsWithin p.input.items p.sent.items) (IsWithin p.input.items (p.sent.items ++ take n piece)) (within_grows p.input.items p.sent.items (take n piece)) p.log.items sound.log)
           (record { order = omega arith; end = omega (arith, grown) }));
     }
-
--- a logged call, by its number
-pub entry_at : (input sent : List ℕ) (calls : List Call) (i : ℕ) (call : Call) → i < length calls
-    → call ≡ slice_index_or calls i call → slice_get (log_of input sent calls) i ≡ Some (logged_as input sent call)
-entry_at input sent [] i call within is = absurd (omega arith)
-entry_at input sent (c ∷ calls) zero call within is = ap (λ (x : Call). Some (logged_as input sent x)) (sym is)
-entry_at input sent (c ∷ calls) (suc i) call within is = entry_at input sent calls i call (omega arith) is

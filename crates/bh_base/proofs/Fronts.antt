@@ -1,5 +1,5 @@
 -- Writes of a piece, front first.
-use Rattle.std.proofs.Common.{◌≡◌, ◌<◌, ◌-◌, ℕ, Bool, false, List, [], ◌∷◌, ◌++◌, length, take, drop, Option, Result, Ok, Err, refl, sym, ◌∙◌, ap, subst, arith, append_assoc, append-nil, take-append-drop, length-drop}
+use Rattle.std.proofs.Common.{◌≡◌, ◌-◌, ℕ, Bool, List, [], ◌++◌, length, take, drop, Option, Result, Ok, Err, refl, sym, ◌∙◌, ap, subst, arith, append_assoc, append-nil, take-append-drop, length-drop}
 use Rattle.std.proofs.lemmas.List.{take_all}
 use Rattle.bh_base.specs.declared.failed.Failed.{Failed}
 use Rattle.bh_base.specs.Steps.{is_empty, WriteFacts, WriteChain, writes_none, writes_one, writes_both, WroteAll}
@@ -29,21 +29,6 @@ module _ {S : Type 0} {step : S → Bool → Result ℕ Failed → List ℕ → 
         chain = writes_both w.chain (writes_one h);
         same = f.quiet ∙ w.same;
       }
-
-  pub some_goes : (t u : S) (rest : List ℕ) (n : ℕ) → 0 < length rest → step t (is_empty rest) (Ok n) (take n rest) u → 0 < n
-  some_goes t u [] n long h = absurd (omega arith)
-  some_goes t u (x ∷ rest) n long h = (law t u false (Ok n) (take n (x ∷ rest)) h).some refl
-
-  pub all_went : (s t : S) (piece rest : List ℕ) → WroteFront step faults s piece rest t → length rest ≡ 0
-      → WroteAll step faults s piece (Ok tt) t
-  all_went s t piece [] w none = record {
-    whole = subst (λ (l : List ℕ). WriteChain step s l t) (sym (w.split ∙ append-nil w.front)) w.chain;
-    part = tt;
-    quiet = w.same;
-    failed = tt;
-    later = omega (arith, w.same);
-  }
-  all_went s t piece (x ∷ rest) w none = absurd (omega arith)
 
   pub part_went : (s t u : S) (piece rest : List ℕ) (e : Failed) → WroteFront step faults s piece rest t
       → step t (is_empty rest) (Err e) [] u → WroteAll step faults s piece (Err e) u

@@ -62,7 +62,7 @@ read_ends v (suc len) n is e =
     let nothing : v.left ≡ [] = some_read v (suc len) (omega arith) (omega (arith, is, none)) in
     rw (none, nothing) refl
 
-read_stays : (xs : List ℕ) (n : ℕ) → is_empty xs ≡ true → (is_empty (drop n xs) ≡ true) × (take n xs ≡ [])
+pub read_stays : (xs : List ℕ) (n : ℕ) → is_empty xs ≡ true → (is_empty (drop n xs) ≡ true) × (take n xs ≡ [])
 read_stays [] zero e = (refl, refl)
 read_stays [] (suc n) e = (refl, refl)
 read_stays (x ∷ xs) n e = absurd (cc)

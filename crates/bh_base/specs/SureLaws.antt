@@ -1,5 +1,5 @@
 -- What each call of a port in memory that never fails does, as the traits ask it, and what any number of calls did.
-use Rattle.std.specs.Prelude.{◌≡◌, ◌<◌, ◌+◌, ◌%◌, ◌^◌, ℕ, zero, suc, min, Bool, true, false, nat_eq, List, [], ◌∷◌, ◌++◌, length, take, drop, Option, Some, None, Result, Ok, Err}
+use Rattle.std.specs.Prelude.{◌≡◌, ◌<◌, ◌+◌, ◌%◌, ◌^◌, ℕ, zero, suc, min, Bool, true, false, nat_eq, List, [], ◌∷◌, ◌++◌, length, drop, Option, Some, None, Result, Ok, Err}
 use Rattle.std.specs.List.{sum}
 use Rattle.std.specs.Io.KnownBytes.{IsAtEnd}
 use Rattle.std.proofs.Common.{refl, sym, ◌∙◌, ap, arith, take-append-drop, length-take, length-append, drop-drop}
@@ -9,6 +9,7 @@ use Rattle.std.proofs.lemmas.List.Sums.{fold-append, sum_by-cons}
 use Rattle.std.proofs.lemmas.Bool.Decides.{nat_tests}
 use Rattle.bh_base.specs.declared.failed.Failed.{Failed}
 use Rattle.bh_base.specs.Steps.{Entry, is_empty, moved, meets_end, ReadFacts, WriteFacts, ReadLeaves, WriteLeaves, WriteChain, writes_none, writes_one, writes_both, Chain, none, took, gave, both, WroteAll}
+use Rattle.bh_base.specs.MemoryLaws.{read_stays}
 use Rattle.bh_base.specs.SurePorts.{SureView, grown, added, sure_answer, after_taking, SureRead, after_giving, SureWrite}
 
 abbrev pub sure_left : SureView → Option (List ℕ)
@@ -34,15 +35,10 @@ sure_at_end v e = empty v.left e
     empty [] e = refl
     empty (x ∷ xs) e = cc
 
-taking_stays : (xs : List ℕ) (n : ℕ) → is_empty xs ≡ true → (is_empty (drop n xs) ≡ true) × (take n xs ≡ [])
-taking_stays [] zero e = (refl, refl)
-taking_stays [] (suc n) e = (refl, refl)
-taking_stays (x ∷ xs) n e = absurd (cc)
-
 taking_ends : (xs : List ℕ) (len : ℕ) → meets_end (nat_eq len 0) (Ok (min len (length xs))) ≡ true
     → is_empty (drop (min len (length xs)) xs) ≡ true
 taking_ends xs zero e = cc
-taking_ends [] (suc len) e = (taking_stays [] (min (suc len) 0) refl).0
+taking_ends [] (suc len) e = (read_stays [] (min (suc len) 0) refl).0
 taking_ends (x ∷ xs) (suc len) e = absurd (some len (min (suc len) (length (x ∷ xs))) (omega arith) e)
   where
     some : (len n : ℕ) → 0 < n → meets_end (nat_eq (suc len) 0) (Ok n) ≡ true → ⊥
@@ -57,7 +53,7 @@ read_facts v len = record {
   failed = tt;
   comes = sym (take-append-drop (min len (length v.left)) v.left);
   end = taking_ends v.left len;
-  stays = taking_stays v.left (min len (length v.left));
+  stays = read_stays v.left (min len (length v.left));
 }
 
 pub sure_read_law : (s t : SureView) (idle : Bool) (r : Result ℕ Failed) (bytes : List ℕ) → SureRead s idle r bytes t

@@ -74,11 +74,18 @@ abbrev pub Completes : Bounds → CanonEnd → List ℕ → ℕ → ℕ → ℕ 
 Completes L end input reads_before reads_now writes_before writes_now = (answer : Answer) → IsAnswer L input answer
     → (Rose reads_before reads_now → ⊥) → (Rose writes_before writes_now → ⊥) → (end ≡ end_of answer (length input)) ⊎ (end ≡ NoMemory)
 
+-- A port that tells what is left tells these of a call.
+abbrev pub IsTold : Bounds → {S : Type 0} → (S → Option (List ℕ)) → (S → Option (List ℕ)) → S → CanonEnd → S → Type 0
+IsTold L left sent s end t = IfSome (left s) (λ input. Told L end input (left t) (sent s) (sent t))
+
+abbrev pub IsComplete : Bounds → {S : Type 0} → (S → Option (List ℕ)) → (S → ℕ) → (S → ℕ) → S → CanonEnd → S → Type 0
+IsComplete L left read_faults write_faults s end t = IfSome (left s) (λ input. Completes L end input (read_faults s) (read_faults t) (write_faults s) (write_faults t))
+
 -- All of that, and the counts of faults: a fault is the end only where its count rose in this call, and else the count stayed.
 pub record CanonFacts (L : Bounds) {S : Type 0} (reads writes : S → Bool → Result ℕ Failed → List ℕ → S → Type 0) (left sent : S → Option (List ℕ)) (read_faults write_faults : S → ℕ)
     (s : S) (end : CanonEnd) (t : S) : Type 0 where
   pub chain : CanonRun L reads writes s end t
-  pub told : IfSome (left s) (λ input. Told L end input (left t) (sent s) (sent t))
+  pub told : IsTold L left sent s end t
   pub read_fault : end ≡ ReadFault → Rose (read_faults s) (read_faults t)
   pub write_fault : end ≡ WriteFault → Rose (write_faults s) (write_faults t)
   pub quiet_reads : (end ≡ ReadFault → ⊥) → read_faults t ≡ read_faults s

@@ -1,7 +1,7 @@
 //! The engine of `canon`.
-ghost use Rattle.std.specs.Prelude.{◌≡◌, ◌<◌, IfOk, IfSome, length};
+ghost use Rattle.std.specs.Prelude.{◌≡◌, ◌<◌, IfOk, length};
 ghost use Rattle.bh_base.specs.Steps.{Rose};
-ghost use Rattle.bh_canon.specs.Ends.{CanonFacts, CanonRun, Told, Completes};
+ghost use Rattle.bh_canon.specs.Ends.{CanonFacts, CanonRun, IsTold, IsComplete};
 
 use crate::deciding::decide;
 use crate::gathering::{GatherError, gather};
@@ -85,8 +85,8 @@ impl Engine {
 
         // What the port gave and got, by the bytes of its calls, and by what it tells of them.
         ensures chain { CanonRun self.old P.read_step P.write_step port.old result port.new }
-        ensures told { IfSome (P.left port.old) (λ input. Told self.old result input (P.left port.new) (P.sent port.old) (P.sent port.new)) }
-        ensures complete { IfSome (P.left port.old) (λ input. Completes self.old result input (P.read_faults port.old) (P.read_faults port.new) (P.write_faults port.old) (P.write_faults port.new)) }
+        ensures told { IsTold self.old P.left P.sent port.old result port.new }
+        ensures complete { IsComplete self.old P.left P.read_faults P.write_faults port.old result port.new }
 
         // The faults.
         ensures read_fault { result ≡ CanonEnd.ReadFault → Rose (P.read_faults port.old) (P.read_faults port.new) }

@@ -6,7 +6,7 @@ use Rattle.bh_base.specs.Steps.{Rose, none}
 use Rattle.bh_model.specs.Ranges.{default_bounds}
 use Rattle.bh_canon.specs.declared.engine.CanonEnd.{CanonEnd}
 use Rattle.bh_canon.specs.declared.engine.CanonEnd.TheVariants as ends
-use Rattle.bh_canon.specs.Ends.{CanonRun, Told, Completes}
+use Rattle.bh_canon.specs.Ends.{CanonRun, IsTold, IsComplete}
 use Rattle.bh_cmd.specs.declared.exits.Exit.TheVariants.{ReadFault, WriteFault, NoMemory}
 use Rattle.bh_cmd.specs.Exits.{exit_of, EndsSo}
 use Rattle.bh_cmd.specs.Runs.{CanonExit}
@@ -17,10 +17,6 @@ ends_so (ends.Refused refusal) P h = h
 ends_so ends.ReadFault P h = h
 ends_so ends.WriteFault P h = h
 ends_so ends.NoMemory P h = h
-
-if_ends_so : (o : Option (List ℕ)) (end : CanonEnd) (P : List ℕ → CanonEnd → Type 0) → IfSome o (λ input. P input end) → IfSome o (λ input. EndsSo (exit_of end) (P input))
-if_ends_so None end P h = tt
-if_ends_so (Some input) end P h = ends_so end (P input) h
 
 is_read_fault : (end : CanonEnd) → exit_of end ≡ ReadFault → end ≡ ends.ReadFault
 is_read_fault (ends.Done summary) e = absurd cc
@@ -38,15 +34,14 @@ is_write_fault ends.NoMemory e = absurd cc
 
 module _ {S : Type 0} {reads writes : S → Bool → Result ℕ Failed → List ℕ → S → Type 0} {left sent : S → Option (List ℕ)} {read_faults write_faults : S → ℕ} {s t : S} where
   pub ended : (end : CanonEnd) → CanonRun default_bounds reads writes s end t
-      → IfSome (left s) (λ input. Told default_bounds end input (left t) (sent s) (sent t))
-      → IfSome (left s) (λ input. Completes default_bounds end input (read_faults s) (read_faults t) (write_faults s) (write_faults t))
+      → IsTold default_bounds left sent s end t → IsComplete default_bounds left read_faults write_faults s end t
       → (end ≡ ends.ReadFault → Rose (read_faults s) (read_faults t)) → (end ≡ ends.WriteFault → Rose (write_faults s) (write_faults t))
       → ((end ≡ ends.ReadFault → ⊥) → read_faults t ≡ read_faults s) → ((end ≡ ends.WriteFault → ⊥) → write_faults t ≡ write_faults s)
       → CanonExit reads writes left sent read_faults write_faults s (exit_of end) t
   ended end chain told complete rf wf qr qw = record {
     chain = ends_so end (λ x. CanonRun default_bounds reads writes s x t) chain;
-    told = if_ends_so (left s) end (λ input x. Told default_bounds x input (left t) (sent s) (sent t)) told;
-    complete = if_ends_so (left s) end (λ input x. Completes default_bounds x input (read_faults s) (read_faults t) (write_faults s) (write_faults t)) complete;
+    told = ends_so end (λ x. IsTold default_bounds left sent s x t) told;
+    complete = ends_so end (λ x. IsComplete default_bounds left read_faults write_faults s x t) complete;
     read_fault = λ e. rf (is_read_fault end e);
     write_fault = λ e. wf (is_write_fault end e);
     quiet_reads = λ no. qr (λ e. no (ap exit_of e));

@@ -1,8 +1,8 @@
 //! The commands.
-ghost use Rattle.std.specs.Prelude.{◌≡◌, ◌↔◌, IsTrue, IfSome, false};
+ghost use Rattle.std.specs.Prelude.{◌≡◌, ◌↔◌, IsTrue, false};
 ghost use Rattle.bh_base.specs.Steps.{Rose};
 ghost use Rattle.bh_model.specs.Ranges.{default_bounds};
-ghost use Rattle.bh_canon.specs.Ends.{CanonRun, Told, Completes};
+ghost use Rattle.bh_canon.specs.Ends.{CanonRun, IsTold, IsComplete};
 ghost use Rattle.bh_cmd.specs.Exits.{EndsSo};
 ghost use Rattle.bh_cmd.specs.Runs.{IsCommand, CanonExit};
 
@@ -51,8 +51,8 @@ pub fn run<P: Port, E: Sink, D: Door, F: Shelf>(
 
     // What the port gave and got, by the bytes of its calls, and by what it tells of them.
     ensures chain { IsCommand words.now → EndsSo result (λ end. CanonRun default_bounds P.read_step P.write_step port.old end port.new) }
-    ensures told { IsCommand words.now → IfSome (P.left port.old) (λ input. EndsSo result (λ end. Told default_bounds end input (P.left port.new) (P.sent port.old) (P.sent port.new))) }
-    ensures complete { IsCommand words.now → IfSome (P.left port.old) (λ input. EndsSo result (λ end. Completes default_bounds end input (P.read_faults port.old) (P.read_faults port.new) (P.write_faults port.old) (P.write_faults port.new))) }
+    ensures told { IsCommand words.now → EndsSo result (λ end. IsTold default_bounds P.left P.sent port.old end port.new) }
+    ensures complete { IsCommand words.now → EndsSo result (λ end. IsComplete default_bounds P.left P.read_faults P.write_faults port.old end port.new) }
 
     // The faults.
     ensures read_fault { result ≡ Exit.ReadFault → Rose (P.read_faults port.old) (P.read_faults port.new) }

@@ -3,7 +3,7 @@ use Rattle.std.proofs.Common.{◌≡◌, ◌<◌, ◌≤◌, ◌+◌, ◌*◌, i
 use Rattle.std.proofs.lemmas.List.{length-append}
 use Rattle.std.proofs.lemmas.List.Elements.{All-nil, All-cons}
 use Rattle.bh_spec.specs.declared.Width.{Width}
-use Rattle.bh_spec.specs.declared.Width.TheVariants.{One, Two, Four, Eight}
+use Rattle.bh_spec.specs.declared.Width.TheVariants.{One}
 use Rattle.bh_spec.specs.Integers.{vi, limit_of, byte_count, SomeBegins, IsAllowed}
 use Rattle.bh_spec.specs.Canonical.{greatest}
 use Rattle.bh_spec.specs.Bounds.{Bounds, IsWithin, no_bounds}
@@ -20,7 +20,8 @@ use Rattle.bh_control.specs.declared.progress.Phase.TheVariants.{Idle, Length, B
 use Rattle.bh_control.specs.Numbers.{numbers}
 use Rattle.bh_control.specs.Phases.{AreAuthority, Read, long_of, part_of, string_at, kept_byte, phase_at, phase_behind, Holds, HasString, BehindPath, BehindAuthority, BehindScheme, Behind, HasRest, Agrees, IsValidAt, AreDone, IsAhead, Opens, OpensBehind, IsLeast, IsTakenAt, OpenLength, OpenBytes, IsOpenAt, strings_behind, to_come, HasSome}
 use Rattle.bh_control.specs.Reading.{Allows, IsReading, IsTaken}
-use Rattle.bh_control.proofs.Texts.{mark-append}
+use Rattle.bh_spec.proofs.Marks.{mark-append}
+use Rattle.bh_spec.proofs.Widths.{count_8}
 use Rattle.bh_control.proofs.Opening.{lower_apart, opens_if, some_opens, one_opens, whole_valid}
 use Rattle.bh_control.proofs.Steps.{read_at, more_steps, value_steps, byte_steps, rest_string, grown, string_grown}
 
@@ -68,14 +69,14 @@ no_authority = All-nil (λ byte. IsTrue (is_authority byte))
 letter_scheme : IsScheme (97 ∷ [])
 letter_scheme = record { letter = (97, [], refl, refl); each = All-cons (λ byte. IsTrue (is_scheme byte)) 97 [] refl (All-nil _); lower_case = refl }
 
-pub record Completed (K : Bounds) (place : Place) (d : Control) (kept : List ℕ) (left : ℕ) : Type 0 where
-  pub control : Control
-  pub is : IsControl control
-  pub agrees : Agrees place d control
-  pub text : Text
-  pub rest : HasRest K place control kept left text
+record Completed (K : Bounds) (place : Place) (d : Control) (kept : List ℕ) (left : ℕ) : Type 0 where
+  control : Control
+  is : IsControl control
+  agrees : Agrees place d control
+  text : Text
+  rest : HasRest K place control kept left text
 
-pub complete : (K : Bounds) (most : ℕ) (place : Place) (d : Control) (kept : List ℕ) (left : ℕ) → Allows K most → 1 ≤ most → AreDone place d → Opens place d kept left
+complete : (K : Bounds) (most : ℕ) (place : Place) (d : Control) (kept : List ℕ) (left : ℕ) → Allows K most → 1 ≤ most → AreDone place d → Opens place d kept left
     → Completed K place d kept left
 complete K most Method d kept left allows one done o =
     let t = letter_behind K (kept ++ o.more) (allows 0 (omega arith)) (allows 1 one) in
@@ -122,7 +123,7 @@ complete K most Path d kept left allows one done o = record {
 -- ---- of a length
 
 -- a length that begins with the bytes and is allowed
-pub length_some : (K : Bounds) (place : Place) (d : Control) (begun : List ℕ) (byte n : ℕ) (w : Width) (more : List ℕ) → n < limit_of w → vi n w ≡ begun ++ (byte ∷ more)
+length_some : (K : Bounds) (place : Place) (d : Control) (begun : List ℕ) (byte n : ℕ) (w : Width) (more : List ℕ) → n < limit_of w → vi n w ≡ begun ++ (byte ∷ more)
     → (k : ℕ) → Allows K k → 1 ≤ k → IsWithin K.part n → AreDone place d → Opens place d [] n → HasSome K (read_at (Length place) begun d) byte
 length_some K place d begun byte n w more fits e k allows one within done o =
     let x = complete K k place d [] n allows one done o in
@@ -151,7 +152,7 @@ anyway_some place d begun byte least is done s =
     length_some no_bounds place d begun byte s.0 s.1 s.2.1.0 s.2.0 (s.2.1.1 ∙ append_assoc begun (byte ∷ []) s.2.1.0) 1 (λ n h. tt) (omega arith) tt done
     (some_opens place d least s.0 is a.0)
 
-pub behind_some : (place : Place) (d : Control) (most least : ℕ) (begun : List ℕ) → IsLeast place d least → SomeBegins (numbers least most) begun → OpensBehind place d most begun
+behind_some : (place : Place) (d : Control) (most least : ℕ) (begun : List ℕ) → IsLeast place d least → SomeBegins (numbers least most) begun → OpensBehind place d most begun
 behind_some place d most least begun is s =
     let a = is_allowed least most (byte_count s.1) s.0 s.3 in
     record { long = s.0; width = s.1; begins = s.2; within = a.1; opens = some_opens place d least s.0 is a.0 }
@@ -242,19 +243,13 @@ fewer_at Scheme zero most bytes h g = omega arith
 fewer_at Authority zero most bytes h g = omega arith
 fewer_at Path zero most bytes h g = omega arith
 
-some_width : (w : Width) → byte_count w ≤ 8
-some_width One = omega arith
-some_width Two = omega arith
-some_width Four = omega arith
-some_width Eight = omega arith
-
 -- a byte of a length, which goes on
 pub more_taken : (place : Place) (begun : List ℕ) (d : Control) (most byte least : ℕ) → OpenLength place most (read_at (Length place) begun d) → IsLeast place d least
     → GoesOn (numbers least most) (begun ++ byte ∷ []) → IsTaken most (read_at (Length place) begun d) byte (read_at (Length place) (begun ++ byte ∷ []) d)
 more_taken place begun d most byte least o is on =
     let s = on.begins in
     let short : length begun + 1 ≤ 8 =
-    omega (arith, some_width s.1, length-vi s.0 s.1, ap length s.2.1.1, length-append (begun ++ byte ∷ []) s.2.1.0, length-append begun (byte ∷ [])) in
+    omega (arith, count_8 s.1, length-vi s.0 s.1, ap length s.2.1.1, length-append (begun ++ byte ∷ []) s.2.1.0, length-append begun (byte ∷ [])) in
     record {
       opens = record {
         done = o.done;
@@ -272,7 +267,7 @@ pub value_taken : (place : Place) (begun : List ℕ) (d : Control) (most byte le
     → IsWhole (numbers least most) (begun ++ byte ∷ []) n w → IsTaken most (read_at (Length place) begun d) byte (read_at (phase_at place n) [] d)
 value_taken place begun d most byte least n w one o is whole =
     let a = is_allowed least most (byte_count w) n whole.allowed in
-    let short : length begun + 1 ≤ 8 = omega (arith, some_width w, length-vi n w, ap length whole.spelled, length-append begun (byte ∷ [])) in
+    let short : length begun + 1 ≤ 8 = omega (arith, count_8 w, length-vi n w, ap length whole.spelled, length-append begun (byte ∷ [])) in
     record {
       opens = open_at place n most d one o.done o.ahead (subst (λ (x : List ℕ). Opens place d x n) (sym o.none) (some_opens place d least n is a.0))
           (omega (arith, ap length o.none, a.1));

@@ -58,10 +58,10 @@ open_live (Bytes place left) most r o = tt
 open_live Ended most r o = tt
 open_live Refused most r o = absurd o
 
-pub limit_allows : (limits : Bounds) (most : ℕ) → limits.part ≡ Some most → Allows limits most
+limit_allows : (limits : Bounds) (most : ℕ) → limits.part ≡ Some most → Allows limits most
 limit_allows limits most e n h = subst (λ (p : Option ℕ). IsWithin p n) (sym e) h
 
-pub sound_known : (limits : Bounds) (capacity : ℕ) (kept : List ℕ) (p : Progress) → IsSound limits capacity kept p → IsReading p.phase → Knows limits p.most (read_of p) kept
+sound_known : (limits : Bounds) (capacity : ℕ) (kept : List ℕ) (p : Progress) → IsSound limits capacity kept p → IsReading p.phase → Knows limits p.most (read_of p) kept
 sound_known limits capacity kept p s active = s.known (reading_live p.phase active)
 
 -- there are few bytes
@@ -88,7 +88,7 @@ sound_room limits capacity kept p q byte s active taken =
     let k = sound_known limits capacity kept p s active in
     omega (arith, k.room, taken.fewer, s.capacity_is)
 
-pub sound_taken : (limits : Bounds) (capacity : ℕ) (kept : List ℕ) (p q : Progress) (byte : ℕ) → IsSound limits capacity kept p → IsReading p.phase
+sound_taken : (limits : Bounds) (capacity : ℕ) (kept : List ℕ) (p q : Progress) (byte : ℕ) → IsSound limits capacity kept p → IsReading p.phase
     → IsTaken p.most (read_of p) byte (read_of q) → Keeps p q → IsSound limits capacity (kept ++ byte ∷ []) q
 sound_taken limits capacity kept p q byte s active taken keeps =
     let k = sound_known limits capacity kept p s active in
@@ -114,16 +114,6 @@ pub sound_pushed : (limits : Bounds) (capacity now : ℕ) (kept longer : List �
 sound_pushed limits capacity now kept longer p q byte s active taken keeps e f =
     subst (λ (n : ℕ). IsSound limits n longer q) (sym f)
     (subst (λ (x : List ℕ). IsSound limits capacity x q) (sym e) (sound_taken limits capacity kept p q byte s active taken keeps))
-
--- refused, nothing more is known
-pub sound_refused : (limits : Bounds) (capacity : ℕ) (kept : List ℕ) (p q : Progress) → IsSound limits capacity kept p → Keeps p q → q.phase ≡ Refused → IsSound limits capacity kept q
-sound_refused limits capacity kept p q s keeps e = record {
-  limit = s.limit ∙ ap (λ (n : ℕ). Some n) (sym keeps.most);
-  some = omega (arith, s.some, keeps.most);
-  room = subst (λ (n : ℕ). HasRoom n q.strings) (sym keeps.most) keeps.room;
-  capacity_is = omega (arith, s.capacity_is, keeps.most);
-  known = λ live. let none : IsLive Refused = subst IsLive e live in absurd none;
-}
 
 -- begun
 pub knows_start : (limits : Bounds) (most : ℕ) (begun : List ℕ) (d : Control) (kept : List ℕ) → 1 ≤ most → begun ≡ [] → d ≡ no_strings → kept ≡ []

@@ -5,13 +5,13 @@ use Rattle.bh_spec.specs.declared.Part.{Part}
 use Rattle.bh_spec.specs.declared.Part.TheVariants as parts
 use Rattle.bh_spec.specs.Integers.{vi}
 use Rattle.bh_spec.specs.Bounds.{Bounds, IsWithin}
-use Rattle.bh_spec.specs.Bytes.{lower}
 use Rattle.bh_spec.specs.Messages.{Control, IsControl}
 use Rattle.bh_spec.specs.Spelling.{IsRequest}
 use Rattle.bh_spec.specs.Texts.{Text, mark, bytes_of, ◌then◌, IsString}
 use Rattle.bh_spec.proofs.Meeting.{meets_map, meets_one}
-use Rattle.bh_spec.proofs.Agreement.{Agree, agree_then, agree_map, agree_string}
-use Rattle.bh_spec.proofs.Reading.{bytes_of-append}
+use Rattle.bh_spec.proofs.Agreement.{Agree}
+use Rattle.bh_spec.proofs.Marks.{bytes_of-append, cut}
+use Rattle.bh_spec.proofs.Whole.{request_agrees}
 use Rattle.bh_control.specs.declared.strings.Place.{Place}
 use Rattle.bh_control.specs.declared.strings.Place.TheVariants.{Method, Scheme, Authority, Path}
 use Rattle.bh_control.specs.declared.progress.Phase.{Phase}
@@ -24,7 +24,7 @@ use Rattle.bh_control.specs.Reading.{IsReading}
 use Rattle.bh_control.specs.Sound.{Follows}
 use Rattle.bh_control.specs.Laws.{OneControl, OneNextPart}
 use Rattle.bh_control.proofs.Pieces.{one_next}
-use Rattle.bh_control.proofs.Steps.{read_at, control_is, part_length, part_byte}
+use Rattle.bh_control.proofs.Steps.{read_at, part_length, part_byte}
 
 -- ---- the grammar of control data, and the strings of a reader
 
@@ -107,66 +107,10 @@ follows_start K = record {
 }
 
 -- no control data begins another
-pub request_once : (K L : Bounds) (c d : Control) → Agree ⊥ (c ≡ d) (IsRequest K c) (IsRequest L d)
-request_once K L c d t u r s =
-    agree_then ⊥ (c.method ≡ d.method) (c ≡ d) (method c) (scheme r.scheme then authority c then path c) (method d) (scheme s.scheme then authority d then path d)
-    (agree_string parts.MethodLength parts.Method c.method d.method)
-    (λ m. agree_then ⊥ (r.scheme ≡ s.scheme) (c ≡ d) (scheme r.scheme) (authority c then path c) (scheme s.scheme) (authority d then path d)
-    (agree_string parts.SchemeLength parts.Scheme r.scheme s.scheme)
-    (λ k. agree_then ⊥ (c.authority ≡ d.authority) (c ≡ d) (authority c) (path c) (authority d) (path d)
-    (agree_string parts.AuthorityLength parts.Authority c.authority d.authority)
-    (λ a. agree_map ⊥ (c.path ≡ d.path) (c ≡ d) (path c) (path d)
-    (λ e. control_is c d m (sym r.same_scheme ∙ ap lower k ∙ s.same_scheme) a e)
-    (agree_string parts.PathLength parts.Path c.path d.path))))
-    t u r.text s.text
-  where
-    method : Control → Text → Type 0
-    method x v = IsString parts.MethodLength parts.Method x.method v
-
-    scheme : List ℕ → Text → Type 0
-    scheme x v = IsString parts.SchemeLength parts.Scheme x v
-
-    authority : Control → Text → Type 0
-    authority x v = IsString parts.AuthorityLength parts.Authority x.authority v
-
-    path : Control → Text → Type 0
-    path x v = IsString parts.PathLength parts.Path x.path v
-
 pub controls_once : (K L : Bounds) → Agree ⊥ (Unit {0}) (IsControlText K) (IsControlText L)
-controls_once K L t u r s = meets_map ⊥ (r.0 ≡ s.0) (Unit {0}) t u (λ e. tt) (request_once K L r.0 s.0 t u r.1.spelled s.1.spelled)
+controls_once K L t u r s = meets_map ⊥ (r.0 ≡ s.0) (Unit {0}) t u (λ e. tt) (request_agrees K L r.0 s.0 t u r.1.spelled s.1.spelled)
 
 -- ---- a byte more
-
--- a text, cut before one of its bytes
-record Cut (t : Text) (kept : List ℕ) (byte : ℕ) (after : List ℕ) : Type 0 where
-  front : Text
-  part : Part
-  back : Text
-  whole : t ≡ front ++ ((part, byte) ∷ back)
-  bytes : bytes_of front ≡ kept
-  rest : bytes_of back ≡ after
-
-cut_later : (x : Part × ℕ) (t : Text) (k : ℕ) (kept : List ℕ) (byte : ℕ) (after : List ℕ) → x.1 ≡ k → Cut t kept byte after → Cut (x ∷ t) (k ∷ kept) byte after
-cut_later x t k kept byte after e c = record {
-  front = x ∷ c.front;
-  part = c.part;
-  back = c.back;
-  whole = ap (λ (y : Text). x ∷ y) c.whole;
-  bytes = ap₂ (λ (a : ℕ) (b : List ℕ). a ∷ b) e c.bytes;
-  rest = c.rest;
-}
-
-cut : (t : Text) (kept : List ℕ) (byte : ℕ) (after : List ℕ) → bytes_of t ≡ kept ++ (byte ∷ after) → Cut t kept byte after
-cut [] [] byte after e = absurd cc
-cut [] (k ∷ kept) byte after e = absurd cc
-cut (x ∷ t) [] byte after e =
-    let head : x.1 ≡ byte = cc in
-    let tail : bytes_of t ≡ after = cc in
-    record { front = []; part = x.0; back = t; whole = ap (λ (y : ℕ). let z : Part × ℕ = (x.0, y) in z ∷ t) head; bytes = refl; rest = tail }
-cut (x ∷ t) (k ∷ kept) byte after e =
-    let head : x.1 ≡ k = cc in
-    let tail : bytes_of t ≡ kept ++ (byte ∷ after) = cc in
-    cut_later x t k kept byte after head (cut t kept byte after tail)
 
 -- every text that completes what is open has one part first
 pub one_part : (K : Bounds) (most : ℕ) (phase : Phase) (begun : List ℕ) (d : Control) (byte : ℕ) → IsReading phase → IsOpenAt phase most (read_at phase begun d)
@@ -198,10 +142,10 @@ follows_step K r s byte kept one steps f = record {
       );
   back = λ c t is g.
       let x = cut g.front kept byte [] g.bytes in
-      let whole : g.front ++ t ≡ x.front ++ ((x.part, byte) ∷ t) =
-      ap (λ (y : Text). y ++ t) x.whole ∙ append_assoc x.front ((x.part, byte) ∷ x.back) t
-      ∙ ap (λ (y : Text). x.front ++ ((x.part, byte) ∷ (y ++ t))) (no_front x.back x.rest) in
-      let h = f.back c ((x.part, byte) ∷ t) is (record { front = x.front; bytes = x.bytes; spelled = subst (IsRequest K c) whole g.spelled }) in
+      let whole : g.front ++ t ≡ x.before ++ ((x.part, byte) ∷ t) =
+      ap (λ (y : Text). y ++ t) x.same ∙ append_assoc x.before ((x.part, byte) ∷ x.after) t
+      ∙ ap (λ (y : Text). x.before ++ ((x.part, byte) ∷ (y ++ t))) (no_front x.after x.rest) in
+      let h = f.back c ((x.part, byte) ∷ t) is (record { front = x.before; bytes = x.begins; spelled = subst (IsRequest K c) whole g.spelled }) in
       steps.on c t (subst (λ (p : Part). Rest K r c ((p, byte) ∷ t)) (one c x.part t h) h);
 }
 
@@ -211,8 +155,8 @@ pub none_becomes : (K : Bounds) (r : Read) (byte : ℕ) (kept : List ℕ) → Fo
 none_becomes K r byte kept f none h =
     let c = h.spelled.0 in
     let x = cut h.text kept byte h.after (h.begins ∙ append_assoc kept (byte ∷ []) h.after) in
-    none c x.part x.back (f.back c ((x.part, byte) ∷ x.back) h.spelled.1.valid
-    (record { front = x.front; bytes = x.bytes; spelled = subst (IsRequest K c) x.whole h.spelled.1.spelled }))
+    none c x.part x.after (f.back c ((x.part, byte) ∷ x.after) h.spelled.1.valid
+    (record { front = x.before; bytes = x.begins; spelled = subst (IsRequest K c) x.same h.spelled.1.spelled }))
 
 pub some_next : (K : Bounds) (r : Read) (byte : ℕ) (kept : List ℕ) → Follows K r kept → HasSome K r byte → IsNext (IsControlText K) kept (part_now r.phase)
 some_next K r byte kept f h =
@@ -243,7 +187,7 @@ whole_text K begun kept d is f =
 
 pub one_control : OneControl
 one_control K L c d bytes g h =
-    meets_one ⊥ (c ≡ d) g.text h.text (request_once K L c d g.text h.text g.spelled.spelled h.spelled.spelled) (g.same ∙ sym h.same)
+    meets_one ⊥ (c ≡ d) g.text h.text (request_agrees K L c d g.text h.text g.spelled.spelled h.spelled.spelled) (g.same ∙ sym h.same)
 
 pub one_next_part : OneNextPart
 one_next_part K L bytes p q g h = one_next (Unit {0}) (IsControlText K) (IsControlText L) (controls_once K L) bytes p q g h

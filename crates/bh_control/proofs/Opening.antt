@@ -9,6 +9,7 @@ use Rattle.bh_spec.specs.Bounds.{Bounds}
 use Rattle.bh_spec.specs.Bytes.{is_letter, is_token, is_scheme, is_authority, is_path, lower}
 use Rattle.bh_spec.specs.Messages.{Control, IsControl, IsToken, IsScheme}
 use Rattle.bh_spec.specs.Texts.{Text}
+use Rattle.bh_spec.proofs.Prefixes.{lists_apart}
 use Rattle.bh_control.specs.declared.strings.Place.{Place}
 use Rattle.bh_control.specs.declared.strings.Place.TheVariants.{Method, Scheme, Authority, Path}
 use Rattle.bh_control.specs.Phases.{kept_byte, HasRest, Agrees, IsWeb, IsValidAt, Opens, IsLeast, IsTakenAt}
@@ -41,17 +42,6 @@ all_same f x n is = All-replicate (λ y. IsTrue (f y)) n x is
 
 long_same : (n x : ℕ) → length {A = ℕ} (replicate n x) ≡ n
 long_same n x = length-replicate {A = ℕ} n x
-
-pub lists_apart : (a b x y : List ℕ) → length a ≡ length b → a ++ x ≡ b ++ y → (a ≡ b) × (x ≡ y)
-lists_apart [] [] x y h e = (refl, e)
-lists_apart [] (c ∷ b) x y h e = absurd cc
-lists_apart (c ∷ a) [] x y h e = absurd cc
-lists_apart (c ∷ a) (d ∷ b) x y h e =
-    let n : length a ≡ length b = cc in
-    let rest : a ++ x ≡ b ++ y = cc in
-    let head : c ≡ d = cc in
-    let both = lists_apart a b x y n rest in
-    (ap₂ (λ (z : ℕ) (zs : List ℕ). z ∷ zs) head both.0, both.1)
 
 -- both parts of what is in lower case are
 pub lower_apart : (kept more : List ℕ) → lower (kept ++ more) ≡ kept ++ more → (lower kept ≡ kept) × (lower more ≡ more)

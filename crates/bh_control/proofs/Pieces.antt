@@ -1,20 +1,20 @@
 -- Of what a reader may say of a piece one thing at most holds, where no text of the kind begins another.
 use Rattle.std.proofs.Common.{◌≡◌, ◌<◌, ◌≤◌, ◌+◌, inl, inr, ℕ, zero, suc, List, [], ◌∷◌, ◌++◌, length, take, get_or, refl, sym, ap, subst, ◌∙◌, append_assoc, append-nil, add-one, arith}
 use Rattle.std.proofs.Math.Seq.{take-suc}
-use Rattle.std.proofs.lemmas.List.{length-append}
+use Rattle.std.proofs.lemmas.List.{length-append, take_all}
 use Rattle.std.proofs.lemmas.Bool.{cases_lt}
 use Rattle.bh_spec.specs.declared.Part.{Part}
 use Rattle.bh_spec.specs.Texts.{Text, bytes_of}
 use Rattle.bh_spec.proofs.Meeting.{meets_front, meets_next}
 use Rattle.bh_spec.proofs.Agreement.{Agree}
-use Rattle.bh_spec.proofs.Reading.{bytes_of-append}
+use Rattle.bh_spec.proofs.Marks.{bytes_of-append}
 use Rattle.bh_control.specs.Pieces.{IsText, CanBecome, IsNext, Ends, GoesOn, IsRefused, IsDead, IsLimit}
 
 -- no text of the kind begins another
 abbrev pub IsOnce : (Text → Type 0) → Type 0
 IsOnce R = Agree ⊥ (Unit {0}) R R
 
-pub front_becomes : (R : Text → Type 0) (front more bytes : List ℕ) → bytes ≡ front ++ more → CanBecome R bytes → CanBecome R front
+front_becomes : (R : Text → Type 0) (front more bytes : List ℕ) → bytes ≡ front ++ more → CanBecome R bytes → CanBecome R front
 front_becomes R front more bytes e h = record {
   text = h.text;
   after = more ++ h.after;
@@ -39,7 +39,7 @@ pub text_becomes : (R : Text → Type 0) (bytes : List ℕ) → IsText R bytes �
 text_becomes R bytes h = record { text = h.text; after = []; spelled = h.spelled; begins = h.same ∙ sym (append-nil bytes) }
 
 -- a text that begins another is the other
-pub text_once : (R : Text → Type 0) → IsOnce R → (front more bytes : List ℕ) → bytes ≡ front ++ more → IsText R front → IsText R bytes → more ≡ []
+text_once : (R : Text → Type 0) → IsOnce R → (front more bytes : List ℕ) → bytes ≡ front ++ more → IsText R front → IsText R bytes → more ≡ []
 text_once R once front more bytes e g h =
     (meets_front (Unit {0}) g.text h.text more [] (once g.text h.text g.spelled h.spelled)
     (ap (λ (x : List ℕ). x ++ more) g.same ∙ sym e ∙ sym h.same ∙ sym (append-nil (bytes_of h.text)))).2
@@ -81,10 +81,6 @@ longer bytes piece i j h =
     let r = take_more piece i j h in
     record { more = r.0; same = ap (λ (x : List ℕ). bytes ++ x) r.1 ∙ sym (append_assoc bytes (take i piece) r.0); long = r.2 }
 
-pub take_all : (piece : List ℕ) → take (length piece) piece ≡ piece
-take_all [] = refl
-take_all (x ∷ xs) = ap (λ (ys : List ℕ). x ∷ ys) (take_all xs)
-
 -- ---- two answers
 
 whole_before : (R : Text → Type 0) → IsOnce R → (bytes piece : List ℕ) (i j : ℕ) → i ≤ j → Ends R bytes piece i → Ends R bytes piece j → i ≡ j
@@ -114,7 +110,7 @@ pub on_refused : (R : Text → Type 0) (bytes piece : List ℕ) (j : ℕ) (part 
 on_refused R bytes piece j part g h =
     let l = longer bytes piece (j + 1) (length piece) (omega (arith, h.inside)) in
     h.after (front_becomes R (bytes ++ take (j + 1) piece) l.more (bytes ++ piece)
-    (ap (λ (x : List ℕ). bytes ++ x) (sym (take_all piece)) ∙ l.same) g.begins)
+    (ap (λ (x : List ℕ). bytes ++ x) (sym (take_all (length piece) piece (omega arith))) ∙ l.same) g.begins)
 
 refused_before : (R : Text → Type 0) (bytes piece : List ℕ) (i j : ℕ) (p q : Part) → i < j → IsRefused R bytes piece i p → IsRefused R bytes piece j q → ⊥
 refused_before R bytes piece i j p q lt g h =
@@ -150,7 +146,7 @@ next_taken now bytes piece i e h =
 pub all_taken : (now bytes piece : List ℕ) (i : ℕ) → now ≡ bytes ++ take i piece → i ≤ length piece → length piece ≤ i → now ≡ bytes ++ piece
 all_taken now bytes piece i e g h =
     let same : i ≡ length piece = omega arith in
-    e ∙ ap (λ (k : ℕ). bytes ++ take k piece) same ∙ ap (λ (x : List ℕ). bytes ++ x) (take_all piece)
+    e ∙ ap (λ (k : ℕ). bytes ++ take k piece) same ∙ ap (λ (x : List ℕ). bytes ++ x) (take_all (length piece) piece (omega arith))
 
 -- where a text is longer than the bytes and the piece, none ends among them
 pub next_unfinished : (R : Text → Type 0) → IsOnce R → (bytes piece : List ℕ) (part : Part) → IsNext R (bytes ++ piece) part → GoesOn R bytes piece
@@ -158,7 +154,7 @@ next_unfinished R once bytes piece part h = record {
   begins = next_becomes R (bytes ++ piece) part h;
   unfinished = λ taken ends.
       let l = longer bytes piece taken (length piece) ends.within in
-      next_once R once (bytes ++ take taken piece) l.more (bytes ++ piece) part (ap (λ (x : List ℕ). bytes ++ x) (sym (take_all piece)) ∙ l.same) ends.whole h;
+      next_once R once (bytes ++ take taken piece) l.more (bytes ++ piece) part (ap (λ (x : List ℕ). bytes ++ x) (sym (take_all (length piece) piece (omega arith))) ∙ l.same) ends.whole h;
 }
 
 pub refused_at : (R : Text → Type 0) (now next bytes piece : List ℕ) (i : ℕ) (part : Part) → now ≡ bytes ++ take i piece → next ≡ bytes ++ take (i + 1) piece

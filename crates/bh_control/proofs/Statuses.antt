@@ -1,8 +1,6 @@
 -- What the bytes of a status may become, by the numbers that are allowed.
 use Rattle.std.proofs.Common.{◌≡◌, ◌<◌, ◌+◌, ◌↔◌, ℕ, zero, suc, List, [], ◌∷◌, ◌++◌, length, take, get_or, Option, Some, None, refl, sym, ap, ap₂, subst, ◌∙◌, inl, inr, append-nil, arith}
-use Rattle.std.proofs.lemmas.List.{map-append}
 use Rattle.std.proofs.lemmas.Bool.{lt-ltb}
-use Rattle.bh_spec.specs.declared.Part.{Part}
 use Rattle.bh_spec.specs.declared.Part.TheVariants as parts
 use Rattle.bh_spec.specs.declared.Width.{Width}
 use Rattle.bh_spec.specs.declared.Width.TheVariants.{Two}
@@ -11,7 +9,7 @@ use Rattle.bh_spec.specs.Integers.{vi, byte_count, IsAllowed, SomeBegins}
 use Rattle.bh_spec.specs.Texts.{mark, bytes_of}
 use Rattle.bh_spec.proofs.Meeting.{meets_map, meets_one}
 use Rattle.bh_spec.proofs.Numbers.{number_meets}
-use Rattle.bh_spec.proofs.Written.{unmark}
+use Rattle.bh_spec.proofs.Marks.{unmark, mark-append}
 use Rattle.bh_varint.specs.Step.{IsWhole, IsUnfinished}
 use Rattle.bh_varint.proofs.Reading.{whole_finished}
 use Rattle.bh_control.specs.Numbers.{numbers, least_status}
@@ -27,25 +25,25 @@ statuses left = numbers (least_status left) 599
 some_left : (left : ℕ) → least_status (Some (suc left)) ≡ 100
 some_left left = rw (lt-ltb 0 (suc left) (omega arith)) refl
 
-pub status_allowed : (left : Option ℕ) (n bytes : ℕ) → IsStatus left n → IsAllowed (statuses left) bytes n
+status_allowed : (left : Option ℕ) (n bytes : ℕ) → IsStatus left n → IsAllowed (statuses left) bytes n
 status_allowed None n bytes h = inr ((h.low, h.high), tt)
 status_allowed (Some zero) n bytes h = inr ((h.interim refl, h.high), tt)
 status_allowed (Some (suc left)) n bytes h = inr ((omega (arith, h.low, some_left left), h.high), tt)
 
-pub allowed_status : (left : Option ℕ) (n bytes : ℕ) → IsAllowed (statuses left) bytes n → IsStatus left n
+allowed_status : (left : Option ℕ) (n bytes : ℕ) → IsAllowed (statuses left) bytes n → IsStatus left n
 allowed_status left n bytes (inl z) = absurd cc
 allowed_status None n bytes (inr h) = record { low = h.0.0; high = h.0.1; interim = λ e. absurd cc }
 allowed_status (Some zero) n bytes (inr h) = record { low = omega (arith, h.0.0); high = h.0.1; interim = λ e. h.0.0 }
 allowed_status (Some (suc left)) n bytes (inr h) = record { low = omega (arith, h.0.0, some_left left); high = h.0.1; interim = λ e. absurd cc }
 
-pub becomes_begins : (left : Option ℕ) (bytes : List ℕ) → CanBecome (IsStatusText left) bytes → SomeBegins (statuses left) bytes
+becomes_begins : (left : Option ℕ) (bytes : List ℕ) → CanBecome (IsStatusText left) bytes → SomeBegins (statuses left) bytes
 becomes_begins left bytes h =
     let n = h.spelled.0 in
     let number = h.spelled.1.spelled in
     let w = number.width in
     (n, w, (number.fits, (h.after, sym (unmark parts.Status (vi n w)) ∙ sym (ap bytes_of number.spelled) ∙ h.begins)), status_allowed left n (byte_count w) h.spelled.1.valid)
 
-pub begins_becomes : (left : Option ℕ) (bytes : List ℕ) → SomeBegins (statuses left) bytes → CanBecome (IsStatusText left) bytes
+begins_becomes : (left : Option ℕ) (bytes : List ℕ) → SomeBegins (statuses left) bytes → CanBecome (IsStatusText left) bytes
 begins_becomes left bytes s =
     let n = s.0 in
     let w = s.1 in
@@ -61,7 +59,7 @@ pub nothing_begins : (left : Option ℕ) → SomeBegins (statuses left) []
 nothing_begins left = (200, Two, (omega arith, (_, refl)), status_allowed left 200 2 (record { low = omega arith; high = omega arith; interim = λ e. omega arith }))
 
 -- bytes that are no whole number have a next one
-pub begins_next : (left : Option ℕ) (bytes : List ℕ) → SomeBegins (statuses left) bytes → IsUnfinished bytes → IsNext (IsStatusText left) bytes parts.Status
+begins_next : (left : Option ℕ) (bytes : List ℕ) → SomeBegins (statuses left) bytes → IsUnfinished bytes → IsNext (IsStatusText left) bytes parts.Status
 begins_next left bytes s part = at s.2.1.0 s.2.1.1
   where
     at : (more : List ℕ) → vi s.0 s.1 ≡ bytes ++ more → IsNext (IsStatusText left) bytes parts.Status
@@ -77,7 +75,7 @@ begins_next left bytes s part = at s.2.1.0 s.2.1.1
           spelled = record {
             width = s.1;
             fits = s.2.0;
-            spelled = sym (ap (mark parts.Status) e ∙ map-append (λ (b : ℕ). let z : Part × ℕ = (parts.Status, b) in z) bytes (byte ∷ more));
+            spelled = sym (ap (mark parts.Status) e ∙ mark-append parts.Status bytes (byte ∷ more));
           };
         },
       );
@@ -85,14 +83,14 @@ begins_next left bytes s part = at s.2.1.0 s.2.1.1
     }
 
 -- a whole number is a status
-pub whole_status : (left : Option ℕ) (bytes : List ℕ) (n : ℕ) (w : Width) → IsWhole (statuses left) bytes n w → IsText (StatusOf left n) bytes
+whole_status : (left : Option ℕ) (bytes : List ℕ) (n : ℕ) (w : Width) → IsWhole (statuses left) bytes n w → IsText (StatusOf left n) bytes
 whole_status left bytes n w h = record {
   text = mark parts.Status (vi n w);
   spelled = record { valid = allowed_status left n (byte_count w) h.allowed; spelled = record { width = w; fits = h.fits; spelled = refl } };
   same = unmark parts.Status (vi n w) ∙ h.spelled;
 }
 
-pub statuses_once : (left : Option ℕ) → IsOnce (IsStatusText left)
+statuses_once : (left : Option ℕ) → IsOnce (IsStatusText left)
 statuses_once left t u r s =
     meets_map ⊥ (r.0 ≡ s.0) (Unit {0}) t u (λ e. tt) (number_meets parts.Status r.0 s.0 t u r.1.spelled s.1.spelled)
 

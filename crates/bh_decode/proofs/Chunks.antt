@@ -6,7 +6,8 @@ use Rattle.std.proofs.lemmas.List.Elements.{All-nil, All-cons, All-append, All-h
 use Rattle.bh_spec.specs.declared.Part.TheVariants as parts
 use Rattle.bh_spec.specs.declared.Form.TheVariants.{Indeterminate}
 use Rattle.bh_spec.specs.Texts.{Text, bytes_of, IsNumber, ◌then◌, AreEach, IsString}
-use Rattle.bh_spec.proofs.Reading.{bytes_of-append}
+use Rattle.bh_spec.proofs.Prefixes.{AreBytes}
+use Rattle.bh_spec.proofs.Marks.{bytes_of-append}
 use Rattle.bh_control.specs.Pieces.{IsText, Ends}
 use Rattle.bh_control.proofs.Pieces.{IsOnce}
 use Rattle.bh_decode.specs.declared.stop.Stop.{Stop}
@@ -18,27 +19,24 @@ use Rattle.bh_decode.proofs.Runs.{runs_once, run_long}
 use Rattle.bh_decode.proofs.Rests.{body_once, some_body}
 use Rattle.bh_decode.proofs.Stopped.{Same, thing_same, thing_then, thing_behind}
 
-abbrev pub IsChunks : Text → Type 0
+abbrev IsChunks : Text → Type 0
 IsChunks t = SomeOf (BodyOf Indeterminate) t
 
 abbrev pub ChunkOf : List ℕ → Text → Type 0
 ChunkOf chunk t = RunOf parts.ChunkLength chunk t
 
 -- behind a chunk stand more; an empty one is the end
-abbrev pub AfterChunk : List ℕ → Text → Type 0
+abbrev AfterChunk : List ℕ → Text → Type 0
 AfterChunk chunk t = ((0 < length chunk) × IsChunks t) ⊎ ((chunk ≡ []) × (t ≡ []))
-
-abbrev Bytes : List ℕ → Type 0
-Bytes xs = All (λ byte. byte < 256) xs
 
 abbrev Some : List ℕ → Type 0
 Some xs = 0 < length xs
 
-bytes_front : (c more : List ℕ) → Bytes (c ++ more) → Bytes c
+bytes_front : (c more : List ℕ) → AreBytes (c ++ more) → AreBytes c
 bytes_front [] more all = All-nil _
 bytes_front (b ∷ c) more all = All-cons (λ (x : ℕ). x < 256) b c (All-head (λ (x : ℕ). x < 256) b (c ++ more) all) (bytes_front c more (All-tail (λ (x : ℕ). x < 256) b (c ++ more) all))
 
-bytes_back : (c more : List ℕ) → Bytes (c ++ more) → Bytes more
+bytes_back : (c more : List ℕ) → AreBytes (c ++ more) → AreBytes more
 bytes_back [] more all = all
 bytes_back (b ∷ c) more all = bytes_back c more (All-tail (λ (x : ℕ). x < 256) b (c ++ more) all)
 
@@ -51,12 +49,12 @@ no_chunk x number = record { bytes = All-nil _; spelled = (x, [], number, refl, 
 more : (t : Text) → IsChunks t → SomeThen ChunkOf AfterChunk t
 more t (content, h) = by_list content h.spelled.0 h.spelled.1 h.spelled.2 h.bytes h.spelled.3
   where
-    by_list : (content : List ℕ) (chunks : List (List ℕ)) → concat chunks ≡ content → All (λ chunk. 0 < length chunk) chunks → Bytes content
+    by_list : (content : List ℕ) (chunks : List (List ℕ)) → concat chunks ≡ content → All (λ chunk. 0 < length chunk) chunks → AreBytes content
         → (IsEachChunk chunks then IsNumber parts.ChunkLength 0) t → SomeThen ChunkOf AfterChunk t
     by_list content [] e some small s = ([], (t, [], no_chunk t (subst (IsNumber parts.ChunkLength 0) (sym (s.4 ∙ ap (λ (x : Text). x ++ s.1) s.2)) s.3), inr (refl, refl), sym (append-nil t)))
     by_list content (c ∷ others) e some small s =
         let a = s.2 in
-        let these : Bytes (c ++ concat others) = subst Bytes (sym e) small in
+        let these : AreBytes (c ++ concat others) = subst AreBytes (sym e) small in
         let rest : IsChunks (a.1 ++ s.1) = (
           concat others,
           record {

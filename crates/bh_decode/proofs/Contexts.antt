@@ -7,7 +7,7 @@ use Rattle.bh_spec.specs.declared.Part.{Part}
 use Rattle.bh_spec.specs.Texts.{Text, bytes_of, ◌then◌}
 use Rattle.bh_spec.proofs.Meeting.{meets_front}
 use Rattle.bh_spec.proofs.Agreement.{Agree, agree_map}
-use Rattle.bh_spec.proofs.Reading.{bytes_of-append}
+use Rattle.bh_spec.proofs.Marks.{bytes_of-append}
 use Rattle.bh_control.specs.Pieces.{IsText, CanBecome, IsNext, GoesOn, IsRefused, IsDead, IsLimit}
 use Rattle.bh_decode.specs.Stops.{SomeOf}
 pub use Rattle.bh_decode.specs.Contexts.{Context}
@@ -116,7 +116,7 @@ abbrev pub Follows : {I : Type 0} → (I → Text → Type 0) → (I → Text �
 Follows {I} A S = (i : I) (t : Text) → A i t → (u : Text) × S i u
 
 -- a thing that is begun can be completed, and then what follows it
-pub begun_then : {I : Type 0} (A S : I → Text → Type 0) → Follows A S → (x : List ℕ) → CanBecome (SomeOf A) x → CanBecome (SomeThen A S) x
+begun_then : {I : Type 0} (A S : I → Text → Type 0) → Follows A S → (x : List ℕ) → CanBecome (SomeOf A) x → CanBecome (SomeThen A S) x
 begun_then A S follows x h =
     let i = h.spelled.0 in
     let more = follows i h.text h.spelled.1 in
@@ -141,12 +141,12 @@ next_then A S follows x part h =
     }
 
 -- what begins with some bytes has begun a thing, or has a whole one among them
-pub record HasWhole {I : Type 0} (A : I → Text → Type 0) (x : List ℕ) : Type 0 where
-  pub front : List ℕ
-  pub back : List ℕ
-  pub whole : IsText (SomeOf A) front
-  pub some : 0 < length back
-  pub joined : front ++ back ≡ x
+record HasWhole {I : Type 0} (A : I → Text → Type 0) (x : List ℕ) : Type 0 where
+  front : List ℕ
+  back : List ℕ
+  whole : IsText (SomeOf A) front
+  some : 0 < length back
+  joined : front ++ back ≡ x
 
 -- of two lists that begin one, the shorter begins the longer
 record Shorter (x y : List ℕ) : Type 0 where
@@ -162,7 +162,7 @@ shorter (c ∷ x) (d ∷ y) a b e h =
     let s = shorter x y a b tail (omega arith) in
     record { back = s.back; joined = ap₂ (λ (p : ℕ) (q : List ℕ). p ∷ q) head s.joined }
 
-pub then_begun : {I : Type 0} (A S : I → Text → Type 0) → (x : List ℕ) → CanBecome (SomeThen A S) x → CanBecome (SomeOf A) x ⊎ HasWhole A x
+then_begun : {I : Type 0} (A S : I → Text → Type 0) → (x : List ℕ) → CanBecome (SomeThen A S) x → CanBecome (SomeOf A) x ⊎ HasWhole A x
 then_begun A S x h =
     let i = h.spelled.0 in
     let u = h.spelled.1.0 in
@@ -204,7 +204,7 @@ not_over A once piece k part next w =
     let s = one_less piece k w.front w.back w.joined w.some in
     next_once (SomeOf A) (once_of A once) w.front s.back (take k piece) part (sym s.joined) w.whole next
 
-pub refused_then : {I : Type 0} (A S : I → Text → Type 0) → AreOnce A → Follows A S → (piece : List ℕ) (k : ℕ) (part : Part)
+refused_then : {I : Type 0} (A S : I → Text → Type 0) → AreOnce A → Follows A S → (piece : List ℕ) (k : ℕ) (part : Part)
     → IsRefused (SomeOf A) [] piece k part → IsRefused (SomeThen A S) [] piece k part
 refused_then A S once follows piece k part h = record {
   inside = h.inside;

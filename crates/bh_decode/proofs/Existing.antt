@@ -11,9 +11,10 @@ use Rattle.bh_spec.specs.Texts.{mark, bytes_of}
 use Rattle.bh_spec.specs.Viable.{IsViable}
 use Rattle.bh_spec.specs.Answers.{Answer, whole, refused, IsRefusedAt, IsAnswer}
 use Rattle.bh_spec.proofs.Longer.{some_next}
-use Rattle.bh_control.proofs.Pieces.{take_all}
+use Rattle.std.proofs.lemmas.List.{take_all}
 use Rattle.bh_decode.specs.Laws.{SomeAnswer}
-use Rattle.bh_decode.proofs.Grammars.{zero_within, framed_message, some_response}
+use Rattle.bh_spec.proofs.Within.{zero_within}
+use Rattle.bh_decode.proofs.Grammars.{framed_message, some_response}
 use Rattle.bh_decode.proofs.Lifted.{viable_of}
 
 one_less : (most : Option ℕ) (k : ℕ) → IsWithin most (suc k) → IsWithin most k
@@ -50,7 +51,7 @@ reach L bytes none (suc k) fits seen dead =
 -- all bytes are viable: they are a message, or end too soon
 ends : (L : Bounds) (bytes : List ℕ) → ((a : Answer) → IsAnswer L bytes a → ⊥) → IsWithin L.input (length bytes) → ⊥
 ends L bytes none seen = reach L bytes none (length bytes) (omega arith) seen (λ v.
-    let viable = subst (IsViable L) (take_all bytes) v in
+    let viable = subst (IsViable L) (take_all (length bytes) bytes (omega arith)) v in
     let next = some_next L bytes viable in
     none (refused (Ended (length bytes) next.0)) (record {
       long = refl;

@@ -2,33 +2,24 @@
 use Rattle.std.proofs.Common.{◌≡◌, ◌<◌, ◌-◌, ◌⊎◌, ℕ, suc, List, [], ◌∷◌, ◌++◌, length, Option, Some, None, codes, IsTrue, refl, ap, arith, inl, inr}
 use Rattle.std.proofs.lemmas.Bool.{cases_lt}
 use Rattle.std.proofs.lemmas.List.Elements.{All-nil, All-cons}
-use Rattle.bh_spec.specs.declared.Part.{Part}
 use Rattle.bh_spec.specs.declared.Part.TheVariants as parts
-use Rattle.bh_spec.specs.Integers.{vi}
 use Rattle.bh_spec.specs.declared.Form.{Form}
-use Rattle.bh_spec.specs.declared.Form.TheVariants.{Known, Indeterminate}
 use Rattle.bh_spec.specs.declared.Kind.TheVariants.{Request, Response}
-use Rattle.bh_spec.specs.declared.Width.TheVariants.{One}
 use Rattle.bh_spec.specs.Bounds.{Bounds, IsWithin, no_bounds}
 use Rattle.bh_spec.specs.Bytes.{is_token, is_scheme}
 use Rattle.bh_spec.specs.Messages.{Field, Control, IsControl}
-use Rattle.bh_spec.specs.Texts.{Text, mark, IsNumber, IsString}
-use Rattle.bh_spec.specs.Sections.{IsLinesWithin, IsSection}
+use Rattle.bh_spec.specs.Texts.{Text}
 use Rattle.bh_control.specs.Control.{ControlOf}
 use Rattle.bh_control.specs.Statuses.{StatusOf}
 use Rattle.bh_decode.specs.Grammar.{HeadersOf, IsRestText, IsAfterStart, IsResponseText, IsAfterFraming, IsFramed, status_left, AfterStatus, TrailersOf, IsPaddingText, IsAfterContent, BodyOf}
 use Rattle.bh_decode.proofs.Contexts.{Follows}
-use Rattle.bh_decode.proofs.Grammars.{zero_within, some_headers, some_rest, some_after_start, some_response}
+use Rattle.bh_spec.proofs.Within.{zero_within}
+use Rattle.bh_spec.proofs.Limits.{section_anyway, request_anyway}
+use Rattle.bh_spec.proofs.Cases.{a_string}
+use Rattle.bh_decode.proofs.Grammars.{some_headers, some_rest, some_after_start, some_response}
 use Rattle.bh_decode.proofs.Rests.{some_padding}
 
 -- ---- within the limits, and so without
-
-lines_anyway : (L : Bounds) (fields : List Field) (t : Text) → IsLinesWithin L fields t → IsLinesWithin no_bounds fields t
-lines_anyway L fields t h = record { lines = h.lines; total = tt; names = λ k d i. tt; values = λ k d i. tt }
-
-section_anyway : (L : Bounds) (form : Form) (fields : List Field) (t : Text) → IsSection L form fields t → IsSection no_bounds form fields t
-section_anyway L Known fields t h = (h.0, lines_anyway L fields h.0 h.1, h.2)
-section_anyway L Indeterminate fields t h = (h.0, h.1, lines_anyway L fields h.0 h.2, h.3, h.4)
 
 pub headers_anyway : (L : Bounds) (form : Form) (fields : List Field) (t : Text) → HeadersOf L form fields t → HeadersOf no_bounds form fields t
 headers_anyway L form fields t h = record { valid = h.valid; spelled = section_anyway L form fields t h.spelled }
@@ -39,15 +30,7 @@ trailers_anyway L form fields t h = record { valid = h.valid; spelled = section_
 pub control_anyway : (L : Bounds) (c : Control) (t : Text) → ControlOf L c t → ControlOf no_bounds c t
 control_anyway L c t h = record {
   valid = h.valid;
-  spelled = record {
-    scheme = h.spelled.scheme;
-    same_scheme = h.spelled.same_scheme;
-    text = h.spelled.text;
-    method_within = tt;
-    scheme_within = tt;
-    authority_within = tt;
-    path_within = tt;
-  };
+  spelled = request_anyway L c t h.spelled;
 }
 
 pub status_anyway : (left : Option ℕ) (status : ℕ) (t : Text) → StatusOf left status t → StatusOf None status t
@@ -59,7 +42,7 @@ status_anyway left status t h = record {
 -- ---- what may follow
 
 -- a request with a method and a scheme of one letter
-abbrev pub least_control : Control
+abbrev least_control : Control
 least_control = record { method = 65 ∷ []; scheme = 97 ∷ []; authority = []; path = [] }
 
 least_is_valid : IsControl least_control
@@ -80,12 +63,6 @@ least_is_valid = record {
     not_web (inl e) = absurd (omega (arith, ap length e))
     not_web (inr e) = absurd (omega (arith, ap length e))
 
-number_text : (part : Part) (n : ℕ) → n < 64 → IsNumber part n (mark part (vi n One))
-number_text part n small = record { width = One; fits = omega (arith, small); spelled = refl }
-
-string_text : (long part : Part) (bytes : List ℕ) → length bytes < 64 → IsString long part bytes (mark long (vi (length bytes) One) ++ mark part bytes)
-string_text long part bytes small = (mark long (vi (length bytes) One), mark part bytes, number_text long (length bytes) small, refl, refl)
-
 some_control : (L : Bounds) → IsWithin L.part 1 → (t : Text) × ControlOf L least_control t
 some_control L one = (
   _,
@@ -97,16 +74,16 @@ some_control L one = (
       text = (
         _,
         _,
-        string_text parts.MethodLength parts.Method (65 ∷ []) (omega arith),
+        a_string parts.MethodLength parts.Method (65 ∷ []) (omega arith),
         (
           _,
           _,
-          string_text parts.SchemeLength parts.Scheme (97 ∷ []) (omega arith),
+          a_string parts.SchemeLength parts.Scheme (97 ∷ []) (omega arith),
           (
             _,
             _,
-            string_text parts.AuthorityLength parts.Authority [] (omega arith),
-            string_text parts.PathLength parts.Path [] (omega arith),
+            a_string parts.AuthorityLength parts.Authority [] (omega arith),
+            a_string parts.PathLength parts.Path [] (omega arith),
             refl,
           ),
           refl,

@@ -1,15 +1,13 @@
 -- The framing number, and statuses.
 use Rattle.std.proofs.Common.{◌≡◌, ℕ, zero, suc, List, [], ◌∷◌, ◌++◌, length, Option, sym, ap, subst, ◌∙◌, append-nil, arith}
-use Rattle.std.proofs.lemmas.List.{map-append}
-use Rattle.bh_spec.specs.declared.Part.{Part}
 use Rattle.bh_spec.specs.declared.Part.TheVariants as parts
 use Rattle.bh_spec.specs.declared.Form.TheVariants.{Known, Indeterminate}
 use Rattle.bh_spec.specs.declared.Kind.TheVariants.{Request, Response}
 use Rattle.bh_spec.specs.Integers.{vi}
 use Rattle.bh_spec.specs.Texts.{Text, mark, bytes_of, IsNumber}
-use Rattle.bh_spec.proofs.Written.{unmark}
+use Rattle.bh_spec.proofs.Marks.{unmark, mark-append}
 use Rattle.bh_control.specs.Pieces.{IsNext, GoesOn}
-use Rattle.bh_control.proofs.Pieces.{take_all}
+use Rattle.std.proofs.lemmas.List.{take_all}
 use Rattle.bh_control.specs.Statuses.{StatusOf}
 use Rattle.bh_decode.specs.declared.stop.Stop.{Stop}
 use Rattle.bh_decode.specs.Grammar.{IsFramed}
@@ -55,12 +53,12 @@ status_cut left bytes h = record { on = h; next = next h.begins.after h.begins.b
     next : (after : List ℕ) → bytes_of h.begins.text ≡ bytes ++ after → IsNext (SomeOf (StatusOf left)) bytes parts.Status
     next [] e = absurd (h.unfinished (length bytes) (record {
       within = omega arith;
-      whole = record { text = h.begins.text; spelled = h.begins.spelled; same = e ∙ append-nil bytes ∙ sym (take_all bytes) };
+      whole = record { text = h.begins.text; spelled = h.begins.spelled; same = e ∙ append-nil bytes ∙ sym (take_all (length bytes) bytes (omega arith)) };
     }))
     next (byte ∷ after) e =
         let these : vi status number.width ≡ bytes ++ (byte ∷ after) = sym (unmark parts.Status (vi status number.width)) ∙ sym (ap bytes_of number.spelled) ∙ e in
         let text : h.begins.text ≡ mark parts.Status bytes ++ ((parts.Status, byte) ∷ mark parts.Status after) =
-        number.spelled ∙ ap (mark parts.Status) these ∙ map-append (λ (b : ℕ). let z : Part × ℕ = (parts.Status, b) in z) bytes (byte ∷ after) in
+        number.spelled ∙ ap (mark parts.Status) these ∙ mark-append parts.Status bytes (byte ∷ after) in
         record {
           before = mark parts.Status bytes;
           byte = byte;

@@ -10,14 +10,14 @@ use Rattle.bh_spec.specs.declared.Omitted.{Omitted}
 use Rattle.bh_spec.specs.declared.Omitted.TheVariants.{Both}
 use Rattle.bh_spec.specs.declared.Width.TheVariants.{One, Two}
 use Rattle.bh_spec.specs.Bounds.{Bounds, IsWithin}
-use Rattle.bh_spec.specs.Messages.{Interim, Start, request, response, Message, kind_of, AreHeaders, IsInterim, IsStart, IsPseudoField, IsRegularField}
+use Rattle.bh_spec.specs.Messages.{Interim, Start, request, response, Message, kind_of, IsInterim, IsStart, IsRegularField}
 use Rattle.bh_spec.specs.Texts.{Text, mark, IsNumber, ◌then◌, AreEach}
-use Rattle.bh_spec.specs.Sections.{IsLinesWithin}
 use Rattle.bh_spec.specs.Spelling.{IsInterimText, IsStartText, framing, Spells}
 use Rattle.bh_spec.proofs.Agreement.{agree_map}
 use Rattle.bh_spec.proofs.Numbers.{number_meets}
 use Rattle.bh_spec.proofs.Sections.{section_agrees}
 use Rattle.bh_spec.proofs.Whole.{framing_is, request_agrees, headers_named}
+use Rattle.bh_spec.proofs.Within.{no_lines, no_headers}
 use Rattle.bh_control.specs.Control.{ControlOf}
 use Rattle.bh_control.specs.Statuses.{StatusOf}
 use Rattle.bh_decode.specs.Grammar.{IsMessageText, HeadersOf, IsRestText, IsAfterStart, IsResponseText, IsAfterFraming, IsFramed, status_left, AfterStatus}
@@ -250,16 +250,6 @@ one_before L form k within t (status, (x, y, st, inl (small, (fields, (u, v, hea
     }
 
 -- ---- something may follow
-
-pub zero_within : (o : Option ℕ) → IsWithin o 0
-zero_within None = tt
-zero_within (Some most) = omega arith
-
-no_lines : (L : Bounds) → IsLinesWithin L [] []
-no_lines L = record { lines = refl; total = zero_within L.section; names = All-nil _; values = All-nil _ }
-
-no_headers : AreHeaders []
-no_headers = ([], [], refl, All-nil IsPseudoField, All-nil IsRegularField)
 
 pub some_headers : (L : Bounds) (form : Form) → (t : Text) × HeadersOf L form [] t
 some_headers L Known = (

@@ -32,10 +32,10 @@ headers_stop L form bytes stop h =
     (thing_same (SomeOf (SectionOf L form Header)) (SomeOf (HeadersOf L form)) (SomeOf (SectionOf no_bounds form Header)) (SomeOf (HeadersOf no_bounds form))
     (headers_same L form) (headers_same no_bounds form) bytes stop h)
 
-pub headers_text : (L : Bounds) (form : Form) (fields : List Field) (bytes : List ℕ) → IsText (SectionOf L form Header fields) bytes → IsText (HeadersOf L form fields) bytes
+headers_text : (L : Bounds) (form : Form) (fields : List Field) (bytes : List ℕ) → IsText (SectionOf L form Header fields) bytes → IsText (HeadersOf L form fields) bytes
 headers_text L form fields bytes h = record { text = h.text; spelled = record { valid = h.spelled.1; spelled = h.spelled.0 }; same = h.same }
 
-pub headers_text_anyway : (L : Bounds) (form : Form) (fields : List Field) (bytes : List ℕ) → IsText (HeadersOf L form fields) bytes → IsText (HeadersOf no_bounds form fields) bytes
+headers_text_anyway : (L : Bounds) (form : Form) (fields : List Field) (bytes : List ℕ) → IsText (HeadersOf L form fields) bytes → IsText (HeadersOf no_bounds form fields) bytes
 headers_text_anyway L form fields bytes h = record { text = h.text; spelled = headers_anyway L form fields h.text h.spelled; same = h.same }
 
 rest_stop : (L : Bounds) (form : Form) (fields : List Field) (bytes : List ℕ) (taken : ℕ) (stop : Stop) → Ends (SectionOf L form Header fields) [] bytes taken

@@ -37,7 +37,7 @@ longer_whole L bytes most s limit more h =
     too_long L bytes most limit more
     (viable_of L (take most bytes) (text_becomes (IsMessageText L) (take most bytes) (of_spelled L s.message s.end.omitted s.end.padding (take most bytes) h.1)))
 
-pub longer_refused : (L : Bounds) (bytes : List ℕ) (most : ℕ) (refusal : Refusal) → L.input ≡ Some most → most < length bytes → IsAnswer L (take most bytes) (refused refusal)
+longer_refused : (L : Bounds) (bytes : List ℕ) (most : ℕ) (refusal : Refusal) → L.input ≡ Some most → most < length bytes → IsAnswer L (take most bytes) (refused refusal)
     → IsAnswer L bytes (refused (past_limit most refusal))
 longer_refused L bytes most (Dead at part) limit more h =
     (first_refused_byte L (take most bytes) bytes at part (omega (arith, h.0.inside, length-take most bytes, more)) (take_take (at + 1) most bytes (omega (arith, h.0.inside, length-take most bytes, more)))).0 h

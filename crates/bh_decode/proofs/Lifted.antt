@@ -26,10 +26,10 @@ viable_of L bytes h = record {
   begins = h.begins;
 }
 
-pub of_viable : (L : Bounds) (bytes : List ℕ) → IsViable L bytes → CanBecome (IsMessageText L) bytes
+of_viable : (L : Bounds) (bytes : List ℕ) → IsViable L bytes → CanBecome (IsMessageText L) bytes
 of_viable L bytes h = record { text = h.text; after = h.after; spelled = (h.message, h.omitted, h.padding, h.spelled); begins = h.begins }
 
-pub next_of : (L : Bounds) (bytes : List ℕ) (part : Part) → IsNext (IsMessageText L) bytes part → NextPart L bytes part
+next_of : (L : Bounds) (bytes : List ℕ) (part : Part) → IsNext (IsMessageText L) bytes part → NextPart L bytes part
 next_of L bytes part h = record {
   message = h.spelled.0;
   omitted = h.spelled.1;

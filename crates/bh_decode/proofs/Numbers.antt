@@ -1,6 +1,5 @@
 -- What the bytes of a number may become, with a greatest number.
 use Rattle.std.proofs.Common.{◌≡◌, ◌<◌, ◌≤◌, ◌+◌, ℕ, List, [], ◌∷◌, ◌++◌, length, take, false, None, refl, sym, ap, subst, ◌∙◌, inl, inr, append-nil, arith}
-use Rattle.std.proofs.lemmas.List.{map-append}
 use Rattle.bh_spec.specs.declared.Part.{Part}
 use Rattle.bh_spec.specs.declared.Width.{Width}
 use Rattle.bh_spec.specs.declared.Width.TheVariants.{One}
@@ -8,7 +7,7 @@ use Rattle.bh_spec.specs.declared.Allowed.{Allowed}
 use Rattle.bh_spec.specs.Integers.{vi, byte_count, IsAllowed, SomeBegins}
 use Rattle.bh_spec.specs.Texts.{mark, bytes_of}
 use Rattle.bh_spec.proofs.Numbers.{number_meets}
-use Rattle.bh_spec.proofs.Written.{unmark}
+use Rattle.bh_spec.proofs.Marks.{unmark, mark-append}
 use Rattle.bh_varint.specs.Step.{IsWhole, IsUnfinished}
 use Rattle.bh_varint.proofs.Reading.{whole_finished}
 use Rattle.bh_control.specs.Pieces.{IsText, CanBecome, IsNext, Ends, IsDead}
@@ -53,7 +52,7 @@ begins_next part most bytes s short = at s.2.1.0 s.2.1.1
           spelled = record {
             width = s.1;
             fits = s.2.0;
-            spelled = sym (ap (mark part) e ∙ map-append (λ (b : ℕ). let z : Part × ℕ = (part, b) in z) bytes (byte ∷ more));
+            spelled = sym (ap (mark part) e ∙ mark-append part bytes (byte ∷ more));
           };
         },
       );

@@ -10,7 +10,7 @@ use Rattle.bh_spec.specs.Messages.{Field, Interim, IsInterim}
 use Rattle.bh_spec.specs.Spelling.{IsInterimText}
 use Rattle.bh_spec.specs.Texts.{Text, bytes_of, ◌then◌, AreEach}
 use Rattle.bh_spec.proofs.Sections.{number_nonempty}
-use Rattle.bh_spec.proofs.Reading.{bytes_of-append}
+use Rattle.bh_spec.proofs.Marks.{bytes_of-append}
 use Rattle.bh_model.specs.declared.informational.Interim as held
 use Rattle.bh_model.specs.Values.{interim_of, IsEnded, AreEnded}
 use Rattle.bh_model.specs.declared.field.Place.TheVariants.{Header}
@@ -20,14 +20,15 @@ use Rattle.bh_control.specs.Statuses.{StatusOf}
 use Rattle.bh_decode.specs.declared.stop.Stop.{Stop}
 use Rattle.bh_decode.specs.declared.fault.Fault.{Fault}
 use Rattle.bh_decode.specs.declared.fault.Fault.TheVariants as faults
-use Rattle.bh_decode.specs.declared.opening.Step.{Step}
-use Rattle.bh_decode.specs.declared.opening.Step.TheVariants as steps
-use Rattle.bh_decode.specs.Responses.{StepIs, OpeningOf}
+use Rattle.bh_decode.specs.declared.opening.ResponsePart.{ResponsePart}
+use Rattle.bh_decode.specs.declared.opening.ResponsePart.TheVariants as found
+use Rattle.bh_decode.specs.Responses.{ResponsePartIs, OpeningOf}
 use Rattle.bh_decode.specs.Grammar.{HeadersOf, IsResponseText, IsAfterStart, status_left, AfterStatus}
 use Rattle.bh_decode.specs.Stops.{SomeOf, Stops, StopsThing, stop_behind, fault_behind, AtStop}
 use Rattle.bh_decode.proofs.Contexts.{Context, context_here, context_on, SomeThen}
 use Rattle.bh_decode.proofs.Fronts.{split_more}
-use Rattle.bh_decode.proofs.Grammars.{zero_within, headers_once, status_once, one_more, one_before}
+use Rattle.bh_spec.proofs.Within.{zero_within}
+use Rattle.bh_decode.proofs.Grammars.{headers_once, status_once, one_more, one_before}
 use Rattle.bh_decode.proofs.Heads.{headers_same}
 use Rattle.bh_decode.proofs.Phases.{IsInterimRest, behind_final, behind_interim_status, behind_interim, stops_then}
 use Rattle.bh_decode.proofs.Stopped.{Same, stops_same, thing_same}
@@ -118,7 +119,7 @@ one_anyway L form k status fields bytes h = record {
 }
 
 pub opened_more : (L : Bounds) (form : Form) (interims : List held.Interim) (i : held.Interim) (bytes : List ℕ) (taken n : ℕ) → Opened L form interims bytes taken
-    → StepIs L form (length interims) (drop taken bytes) (steps.Interim i n) → Opened L form (interims ++ i ∷ []) bytes (taken + n)
+    → ResponsePartIs L form (length interims) (drop taken bytes) (found.Interim i n) → Opened L form (interims ++ i ∷ []) bytes (taken + n)
 opened_more L form interims i bytes taken n k h =
     let s = h.2 in
     let status = s.whole.spelled.2 in
@@ -146,7 +147,7 @@ opened_more L form interims i bytes taken n k h =
     }
 
 pub opening_whole : (L : Bounds) (form : Form) (interims : List held.Interim) (status : ℕ) (bytes : List ℕ) (taken n : ℕ) → Opened L form interims bytes taken
-    → StepIs L form (length interims) (drop taken bytes) (steps.Final status n) → Ends (OpeningOf L form (map interim_of interims) status) [] bytes (taken + n)
+    → ResponsePartIs L form (length interims) (drop taken bytes) (found.Final status n) → Ends (OpeningOf L form (map interim_of interims) status) [] bytes (taken + n)
 opening_whole L form interims status bytes taken n k h = record {
   within = omega (arith, k.within, h.1.within, length-drop taken bytes);
   whole = record {
@@ -163,14 +164,14 @@ opening_whole L form interims status bytes taken n k h = record {
 }
 
 pub opening_behind : (L : Bounds) (form : Form) (interims : List held.Interim) (status : ℕ) (bytes : List ℕ) (taken n : ℕ) → Opened L form interims bytes taken
-    → StepIs L form (length interims) (drop taken bytes) (steps.Final status n) → Context (IsResponseText L form 0) (IsAfterStart L form) (take (taken + n) bytes) 0
+    → ResponsePartIs L form (length interims) (drop taken bytes) (found.Final status n) → Context (IsResponseText L form 0) (IsAfterStart L form) (take (taken + n) bytes) 0
 opening_behind L form interims status bytes taken n k h =
     subst (λ (x : List ℕ). Context (IsResponseText L form 0) (IsAfterStart L form) x 0) (sym (split_more bytes taken n k.within))
     (context_on (IsResponseText L form 0) (IsResponseText L form (length interims)) (IsAfterStart L form) (take taken bytes) (take n (drop taken bytes)) 0 0 (omega arith) k.here
     (behind_final L form (length interims) status (take n (drop taken bytes)) k.few h.0 h.1.whole))
 
 pub opening_anyway : (L : Bounds) (form : Form) (interims : List held.Interim) (status : ℕ) (bytes : List ℕ) (taken n : ℕ) → Opened L form interims bytes taken
-    → StepIs L form (length interims) (drop taken bytes) (steps.Final status n) → Context (IsResponseText no_bounds form 0) (IsAfterStart no_bounds form) (take (taken + n) bytes) 0
+    → ResponsePartIs L form (length interims) (drop taken bytes) (found.Final status n) → Context (IsResponseText no_bounds form 0) (IsAfterStart no_bounds form) (take (taken + n) bytes) 0
 opening_anyway L form interims status bytes taken n k h =
     subst (λ (x : List ℕ). Context (IsResponseText no_bounds form 0) (IsAfterStart no_bounds form) x 0) (sym (split_more bytes taken n k.within))
     (context_on (IsResponseText no_bounds form 0) (IsResponseText no_bounds form (length interims)) (IsAfterStart no_bounds form) (take taken bytes) (take n (drop taken bytes)) 0 0 (omega arith) k.anyway
@@ -188,9 +189,9 @@ opening_fault L form interims bytes taken faults.NoMemory k h = tt
 
 -- ---- the same, by what a caller knows of limits, count and bytes
 
-pub step_here : (K L : Bounds) (form : Form) (j k : ℕ) (x y : List ℕ) (step : Step) → K ≡ L → j ≡ k → x ≡ y → StepIs K form j x step → StepIs L form k y step
-step_here K L form j k x y step e f g h =
-    subst (λ (B : Bounds). StepIs B form k y step) e (subst (λ (n : ℕ). StepIs K form n y step) f (subst (λ (z : List ℕ). StepIs K form j z step) g h))
+pub part_here : (K L : Bounds) (form : Form) (j k : ℕ) (x y : List ℕ) (step : ResponsePart) → K ≡ L → j ≡ k → x ≡ y → ResponsePartIs K form j x step → ResponsePartIs L form k y step
+part_here K L form j k x y step e f g h =
+    subst (λ (B : Bounds). ResponsePartIs B form k y step) e (subst (λ (n : ℕ). ResponsePartIs K form n y step) f (subst (λ (z : List ℕ). ResponsePartIs K form j z step) g h))
 
 pub fault_here : (K L : Bounds) (form : Form) (j k : ℕ) (x y : List ℕ) (fault : Fault) → K ≡ L → j ≡ k → x ≡ y → AtStop (Stops (IsResponseText K form j) (IsResponseText no_bounds form j) x) fault
     → AtStop (Stops (IsResponseText L form k) (IsResponseText no_bounds form k) y) fault
@@ -200,8 +201,8 @@ fault_here K L form j k x y fault e f g h =
     (subst (λ (z : List ℕ). AtStop (Stops (IsResponseText K form j) (IsResponseText no_bounds form j) z) fault) g h))
 
 -- an interim response has a byte at least
-pub step_long : (L : Bounds) (form : Form) (k : ℕ) (bytes : List ℕ) (i : held.Interim) (n : ℕ) → StepIs L form k bytes (steps.Interim i n) → (0 < n) × (n ≤ length bytes)
-step_long L form k bytes i n h =
+pub part_long : (L : Bounds) (form : Form) (k : ℕ) (bytes : List ℕ) (i : held.Interim) (n : ℕ) → ResponsePartIs L form k bytes (found.Interim i n) → (0 < n) × (n ≤ length bytes)
+part_long L form k bytes i n h =
     let s = h.2 in
     let status = s.whole.spelled.2.spelled in (
       omega (

@@ -1,16 +1,14 @@
 -- Zeros to the end.
 use Rattle.std.proofs.Common.{◌≡◌, ◌<◌, ◌+◌, ℕ, zero, suc, List, [], ◌∷◌, ◌++◌, length, take, get_or, replicate, All, refl, sym, ap, subst, ◌∙◌, arith, append_assoc}
-use Rattle.std.proofs.lemmas.List.{map-append}
 use Rattle.std.proofs.lemmas.List.Elements.{All-replicate, All-head, All-tail}
-use Rattle.bh_spec.specs.declared.Part.{Part}
 use Rattle.bh_spec.specs.declared.Part.TheVariants as parts
 use Rattle.bh_spec.specs.Texts.{mark, bytes_of, IsRun}
-use Rattle.bh_spec.proofs.Written.{unmark}
+use Rattle.bh_spec.proofs.Marks.{unmark, mark-append}
 use Rattle.bh_control.specs.Pieces.{IsText, CanBecome, IsNext, IsDead}
 use Rattle.bh_control.proofs.Pieces.{next_taken, refused_at}
 use Rattle.bh_decode.specs.Grammar.{IsPaddingText}
 
-pub zeros_more : (n : ℕ) → let zeros : List ℕ = replicate n 0 in zeros ++ 0 ∷ [] ≡ replicate (n + 1) 0
+zeros_more : (n : ℕ) → let zeros : List ℕ = replicate n 0 in zeros ++ 0 ∷ [] ≡ replicate (n + 1) 0
 zeros_more zero = refl
 zeros_more (suc n) =
     let step : suc n + 1 ≡ suc (n + 1) = omega arith in
@@ -34,7 +32,7 @@ padding_next n = record {
   before = mark parts.Padding (replicate n 0);
   byte = 0;
   after = [];
-  spelled = (n + 1, sym (ap (mark parts.Padding) (sym (zeros_more n)) ∙ map-append (λ (b : ℕ). let z : Part × ℕ = (parts.Padding, b) in z) (replicate n 0) (0 ∷ [])));
+  spelled = (n + 1, sym (ap (mark parts.Padding) (sym (zeros_more n)) ∙ mark-append parts.Padding (replicate n 0) (0 ∷ [])));
   begins = unmark parts.Padding (replicate n 0);
 }
 

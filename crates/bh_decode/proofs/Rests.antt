@@ -88,7 +88,7 @@ rest_here L form =
 pub behind_body : (L : Bounds) (form : Form) (content bytes : List ℕ) → IsText (BodyOf form content) bytes → Context (IsBodyRest L form) (IsAfterContent L form) bytes 0
 behind_body L form content bytes h = context_behind (BodyOf form) (λ (c : List ℕ). IsAfterContent L form) (body_once form) content bytes h
 
-pub some_trailers : (L : Bounds) (form : Form) → (t : Text) × TrailersOf L form [] t
+some_trailers : (L : Bounds) (form : Form) → (t : Text) × TrailersOf L form [] t
 some_trailers L form = let h = some_headers L form in (h.0, record { valid = All-nil IsRegularField; spelled = h.1.spelled })
 
 pub some_padding : IsPaddingText []

@@ -1,6 +1,6 @@
 -- A length and so many bytes of content.
 use Rattle.std.proofs.Common.{◌≡◌, ◌<◌, ◌≤◌, ◌+◌, ◌-◌, ℕ, suc, List, [], ◌++◌, length, take, drop, replicate, All, refl, sym, ap, subst, ◌∙◌, arith}
-use Rattle.std.proofs.lemmas.List.{map-append, length-append, length-take, length-map, length-replicate}
+use Rattle.std.proofs.lemmas.List.{length-append, length-take, length-map, length-replicate}
 use Rattle.std.proofs.lemmas.List.Elements.{All-replicate, All-append, All-take}
 use Rattle.bh_spec.specs.declared.Part.{Part}
 use Rattle.bh_spec.specs.declared.Part.TheVariants as parts
@@ -13,7 +13,7 @@ use Rattle.bh_spec.specs.declared.Form.TheVariants.{Known}
 use Rattle.bh_spec.proofs.Sections.{number_nonempty}
 use Rattle.bh_spec.proofs.Agreement.{agree_string}
 use Rattle.bh_spec.proofs.Meeting.{Meets, meets_mark}
-use Rattle.bh_spec.proofs.Written.{unmark}
+use Rattle.bh_spec.proofs.Marks.{unmark, mark-append, length-mark}
 use Rattle.bh_control.specs.Pieces.{IsText, IsNext, Ends}
 use Rattle.bh_control.proofs.Pieces.{IsOnce, next_unfinished}
 use Rattle.bh_decode.specs.declared.stop.Stop.{Stop}
@@ -27,7 +27,7 @@ use Rattle.bh_decode.proofs.Stopped.{Same, thing_same, thing_then}
 
 -- ---- so many bytes
 
-pub content_once : (long : ℕ) → AreOnce (ContentOf long)
+content_once : (long : ℕ) → AreOnce (ContentOf long)
 content_once long c d t u a b =
     let same : length c ≡ length d = a.length_is ∙ sym b.length_is in
     subst (λ (x : Text). Meets ⊥ (c ≡ d) x u) (sym a.spelled) (subst (λ (y : Text). Meets ⊥ (c ≡ d) (mark parts.Content c) y) (sym b.spelled) (meets_mark parts.Content c d same))
@@ -55,7 +55,7 @@ content_next bytes long missing small e =
         record {
           length_is = length-append bytes zeros ∙ ap (λ (n : ℕ). length bytes + n) (length-replicate (suc missing) 0) ∙ e;
           bytes = All-append (λ (b : ℕ). b < 256) bytes zeros small (All-replicate (λ (b : ℕ). b < 256) (suc missing) 0 (omega arith));
-          spelled = sym (map-append (λ (b : ℕ). let z : Part × ℕ = (parts.Content, b) in z) bytes zeros);
+          spelled = sym (mark-append parts.Content bytes zeros);
         },
       );
       begins = unmark parts.Content bytes;
@@ -85,7 +85,7 @@ runs_once long c d t u a b = agree_string long parts.Content c d t u a.spelled b
 abbrev pub Length : Part → ℕ → Text → Type 0
 Length long n t = NumberOf long greatest n t
 
-abbrev pub IsLengthThen : Part → Text → Type 0
+abbrev IsLengthThen : Part → Text → Type 0
 IsLengthThen long t = SomeThen (Length long) (λ (n : ℕ). SomeOf (ContentOf n)) t
 
 number_small : (n : ℕ) (w : Width) → n < limit_of w → n ≤ greatest
@@ -108,7 +108,7 @@ of_run long t (c, run) =
     let s = run.spelled in
     (length c, (s.0, s.1, record { within = number_small (length c) s.2.width s.2.fits; spelled = s.2 }, (c, record { length_is = refl; bytes = run.bytes; spelled = s.3 }), s.4))
 
-pub length_same : (long : Part) → Same (IsLengthThen long) (SomeOf (RunOf long))
+length_same : (long : Part) → Same (IsLengthThen long) (SomeOf (RunOf long))
 length_same long = record { on = run_of long; back = of_run long }
 
 after_length : (long : Part) → Follows (Length long) (λ (n : ℕ). SomeOf (ContentOf n))
@@ -151,7 +151,7 @@ run_ends long bytes taken n content number run =
 pub run_long : (long : Part) (c bytes : List ℕ) (n : ℕ) → Ends (RunOf long c) [] bytes n → length c < n
 run_long long c bytes n h =
     let s = h.whole.spelled.spelled in
-    let marked : length s.1 ≡ length c = ap length s.3 ∙ length-map c (λ (b : ℕ). let z : Part × ℕ = (parts.Content, b) in z) in
+    let marked : length s.1 ≡ length c = ap length s.3 ∙ length-mark parts.Content c in
     omega (
       arith,
       number_nonempty long (length c) s.0 s.2,

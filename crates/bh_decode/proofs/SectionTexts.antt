@@ -15,7 +15,7 @@ use Rattle.bh_control.proofs.Pieces.{next_unfinished}
 use Rattle.bh_decode.specs.Stops.{SomeOf, IsCutThing}
 use Rattle.bh_decode.proofs.Contexts.{AreOnce, once_of}
 
-pub sections_once : (L : Bounds) (form : Form) (place : Place) → AreOnce (SectionOf L form place)
+sections_once : (L : Bounds) (form : Form) (place : Place) → AreOnce (SectionOf L form place)
 sections_once L form Header fs gs t u a b = section_agrees L L form fs gs (headers_named fs a.1) (headers_named gs b.1) t u a.0 b.0
 sections_once L form Trailer fs gs t u a b = section_agrees L L form fs gs (trailers_named fs a.1) (trailers_named gs b.1) t u a.0 b.0
 

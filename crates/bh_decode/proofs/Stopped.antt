@@ -1,11 +1,12 @@
 -- A stop behind what was read is a stop of the whole; and a stop of a message is the answer for an input.
-use Rattle.std.proofs.Common.{◌≤◌, ◌+◌, ℕ, List, [], ◌∷◌, ◌++◌, length, take, zero-add, Option, Some, None, sym, subst, arith}
+use Rattle.std.proofs.Common.{◌≤◌, ◌+◌, ℕ, List, [], ◌∷◌, ◌++◌, length, take, zero-add, sym, subst, arith}
 use Rattle.std.proofs.lemmas.List.{length-append}
 use Rattle.bh_spec.specs.declared.Part.{Part}
 use Rattle.bh_spec.specs.declared.Refusal.TheVariants as refusals
 use Rattle.bh_spec.specs.Bounds.{Bounds, IsWithin, no_bounds}
 use Rattle.bh_spec.specs.Texts.{Text}
 use Rattle.bh_spec.specs.Answers.{refused, IsAnswer}
+use Rattle.bh_spec.proofs.Within.{within_less}
 use Rattle.bh_control.specs.Pieces.{CanBecome, IsNext, IsRefused}
 use Rattle.bh_decode.specs.declared.stop.Stop.{Stop}
 use Rattle.bh_decode.specs.declared.stop.Stop.TheVariants.{Dead, Limit, Ended}
@@ -36,10 +37,6 @@ stops_behind M R N S done piece m n c d enough (Ended part) h = record {
   next = c.next piece part h.next;
   unfinished = λ t. h.unfinished (c.text piece enough t);
 }
-
-within_less : (most : Option ℕ) (m n : ℕ) → m ≤ n → IsWithin most n → IsWithin most m
-within_less None m n fits within = tt
-within_less (Some most) m n fits within = omega (arith, within)
 
 pub stop_answers : (L : Bounds) (bytes : List ℕ) → IsWithin L.input (length bytes) → (stop : Stop)
     → Stops (IsMessageText L) (IsMessageText no_bounds) bytes stop → IsAnswer L bytes (refused (refusal_of (length bytes) stop))

@@ -10,7 +10,7 @@ use Rattle.bh_spec.specs.Bounds.{Bounds, no_bounds}
 use Rattle.bh_spec.specs.Messages.{Field, IsRegularField}
 use Rattle.bh_spec.specs.Texts.{Text, IsRun, ◌then◌}
 use Rattle.bh_spec.proofs.Sections.{body_nonempty}
-use Rattle.bh_spec.proofs.Reading.{bytes_of-append}
+use Rattle.bh_spec.proofs.Marks.{bytes_of-append}
 use Rattle.bh_model.specs.declared.field.Place.TheVariants.{Trailer}
 use Rattle.bh_fields.specs.Sections.{SectionOf}
 use Rattle.bh_control.specs.Pieces.{IsText, Ends}
@@ -36,7 +36,7 @@ stops_there M R N S bytes taken m n stop within c d enough h =
     subst (λ (k : ℕ). Stops M N bytes (stop_behind k stop)) (length_front bytes taken within)
     (subst (λ (x : List ℕ). Stops M N x (stop_behind (length (take taken bytes)) stop)) (take-append-drop taken bytes) there)
 
-pub stop_near : (R S : Text → Type 0) (bytes : List ℕ) (taken : ℕ) (stop : Stop) → taken ≤ length bytes → length bytes ≤ 2 ^ 40 → Stops R S (drop taken bytes) stop → IsStopWithin taken stop
+stop_near : (R S : Text → Type 0) (bytes : List ℕ) (taken : ℕ) (stop : Stop) → taken ≤ length bytes → length bytes ≤ 2 ^ 40 → Stops R S (drop taken bytes) stop → IsStopWithin taken stop
 stop_near R S bytes taken (stops.Dead at part) within short h = omega (arith, h.refused.inside, length-drop taken bytes, within, short)
 stop_near R S bytes taken (stops.Limit at part) within short h = omega (arith, h.refused.inside, length-drop taken bytes, within, short)
 stop_near R S bytes taken (stops.Ended part) within short h = tt
@@ -98,13 +98,13 @@ behind_some_content L form content bytes h =
     (context_on (IsRestText L form) (IsBodyRest L form) (IsAfterContent L form) [] bytes 1 0 (omega (arith, body_long form content bytes h)) (rest_here L form) (behind_body L form content bytes h))
     (behind_content L form))
 
-pub end_stop : (L : Bounds) (form : Form) (content bytes : List ℕ) (taken : ℕ) (stop : Stop) → Ends (BodyOf form content) [] bytes taken → 1 ≤ length (drop taken bytes)
+end_stop : (L : Bounds) (form : Form) (content bytes : List ℕ) (taken : ℕ) (stop : Stop) → Ends (BodyOf form content) [] bytes taken → 1 ≤ length (drop taken bytes)
     → Stops (IsEndText L form) (IsEndText no_bounds form) (drop taken bytes) stop → Stops (IsRestText L form) (IsRestText no_bounds form) bytes (stop_behind taken stop)
 end_stop L form content bytes taken stop body some h =
     stops_there (IsRestText L form) (IsEndText L form) (IsRestText no_bounds form) (IsEndText no_bounds form) bytes taken 1 1 stop body.within
     (behind_some_content L form content (take taken bytes) body.whole) (behind_some_content no_bounds form content (take taken bytes) body.whole) some h
 
-pub body_stop : (L : Bounds) (form : Form) (bytes : List ℕ) (stop : Stop) → 1 ≤ length bytes → StopsThing (SomeOf (BodyOf form)) (SomeOf (BodyOf form)) bytes stop
+body_stop : (L : Bounds) (form : Form) (bytes : List ℕ) (stop : Stop) → 1 ≤ length bytes → StopsThing (SomeOf (BodyOf form)) (SomeOf (BodyOf form)) bytes stop
     → Stops (IsRestText L form) (IsRestText no_bounds form) bytes stop
 body_stop L form bytes stop some h =
     subst (Stops (IsRestText L form) (IsRestText no_bounds form) bytes) (same stop)

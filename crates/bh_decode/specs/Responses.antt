@@ -10,15 +10,15 @@ use Rattle.bh_model.specs.declared.field.Place.TheVariants.{Header}
 use Rattle.bh_fields.specs.Sections.{SectionOf}
 use Rattle.bh_control.specs.Pieces.{Ends}
 use Rattle.bh_control.specs.Statuses.{StatusOf}
-use Rattle.bh_decode.specs.declared.opening.Step.{Step}
-use Rattle.bh_decode.specs.declared.opening.Step.TheVariants as steps
+use Rattle.bh_decode.specs.declared.opening.ResponsePart.{ResponsePart}
+use Rattle.bh_decode.specs.declared.opening.ResponsePart.TheVariants as found
 use Rattle.bh_decode.specs.Grammar.{status_left}
 
 -- what was read behind so many interim responses: one more, or the final status
-abbrev pub StepIs : Bounds → Form → ℕ → List ℕ → Step → Type 0
-StepIs L form before bytes (steps.Interim interim taken) = (interim.status < 200) × (interim.fields.making ≡ None)
+abbrev pub ResponsePartIs : Bounds → Form → ℕ → List ℕ → ResponsePart → Type 0
+ResponsePartIs L form before bytes (found.Interim interim taken) = (interim.status < 200) × (interim.fields.making ≡ None)
     × Ends (StatusOf (status_left L.interims before) interim.status then SectionOf L form Header interim.fields.lines) [] bytes taken
-StepIs L form before bytes (steps.Final status taken) = (200 ≤ status) × Ends (StatusOf (status_left L.interims before) status) [] bytes taken
+ResponsePartIs L form before bytes (found.Final status taken) = (200 ≤ status) × Ends (StatusOf (status_left L.interims before) status) [] bytes taken
 
 -- these interim responses, and this final status
 pub record OpeningOf (L : Bounds) (form : Form) (interims : List Interim) (status : ℕ) (t : Text) : Type 0 where

@@ -3,7 +3,7 @@ ghost use Rattle.std.specs.Prelude.{[], ◌≤◌, ◌^◌, length, IfOk, IfErr}
 ghost use Rattle.bh_spec.specs.declared.Form.TheVariants as forms;
 ghost use Rattle.bh_control.specs.Pieces.{Ends};
 ghost use Rattle.bh_decode.specs.Grammar.{BodyOf};
-ghost use Rattle.bh_decode.specs.Stops.{SomeOf, StopsThing, AtStop};
+ghost use Rattle.bh_decode.specs.Stops.{StopsAt, AtStop};
 
 use crate::content::read_run;
 use crate::fault::Fault;
@@ -22,7 +22,7 @@ pub struct Body {
 fn read_chunks(alloc: Global, bytes: &[u8]) -> Result<Body, Fault>
     requires { length bytes.now ≤ 2 ^ 40 }
     ensures whole { IfOk result (λ body. Ends (BodyOf forms.Indeterminate body.content) [] bytes.now body.taken) }
-    ensures stops { IfErr result (AtStop (StopsThing (SomeOf (BodyOf forms.Indeterminate)) (SomeOf (BodyOf forms.Indeterminate)) bytes.now)) }
+    ensures stops { IfErr result (AtStop (StopsAt (BodyOf forms.Indeterminate) (BodyOf forms.Indeterminate) bytes.now)) }
 {
     let mut content = Vec::new(alloc);
     let mut taken = 0;
@@ -45,7 +45,7 @@ fn read_chunks(alloc: Global, bytes: &[u8]) -> Result<Body, Fault>
 fn read_known(alloc: Global, bytes: &[u8]) -> Result<Body, Fault>
     requires { length bytes.now ≤ 2 ^ 40 }
     ensures whole { IfOk result (λ body. Ends (BodyOf forms.Known body.content) [] bytes.now body.taken) }
-    ensures stops { IfErr result (AtStop (StopsThing (SomeOf (BodyOf forms.Known)) (SomeOf (BodyOf forms.Known)) bytes.now)) }
+    ensures stops { IfErr result (AtStop (StopsAt (BodyOf forms.Known) (BodyOf forms.Known) bytes.now)) }
 {
     let run = read_run(bytes, Part::ContentLength)?;
     let content = Bytes::from_slice(alloc, run.content)?;
@@ -59,7 +59,7 @@ fn read_known(alloc: Global, bytes: &[u8]) -> Result<Body, Fault>
 pub fn read_body(alloc: Global, form: Form, bytes: &[u8]) -> Result<Body, Fault>
     requires { length bytes.now ≤ 2 ^ 40 }
     ensures whole { IfOk result (λ body. Ends (BodyOf form body.content) [] bytes.now body.taken) }
-    ensures stops { IfErr result (AtStop (StopsThing (SomeOf (BodyOf form)) (SomeOf (BodyOf form)) bytes.now)) }
+    ensures stops { IfErr result (AtStop (StopsAt (BodyOf form) (BodyOf form) bytes.now)) }
 {
     match form {
         Form::Known => read_known(alloc, bytes),

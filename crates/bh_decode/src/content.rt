@@ -3,7 +3,7 @@ ghost use Rattle.std.specs.Prelude.{◌≡◌, [], take, IfSome, IfNone, IfOk, I
 ghost use Rattle.bh_spec.specs.declared.Part.TheVariants as parts;
 ghost use Rattle.bh_control.specs.Pieces.{Ends};
 ghost use Rattle.bh_decode.specs.Grammar.{ContentOf, RunOf};
-ghost use Rattle.bh_decode.specs.Stops.{SomeOf, IsCutThing, StopsThing};
+ghost use Rattle.bh_decode.specs.Stops.{SomeOf, IsCutThing, StopsAt};
 
 use crate::number::{GREATEST, read_number};
 use crate::slices::behind;
@@ -30,11 +30,11 @@ fn take_content(bytes: &[u8], long: u64) -> Option<&[u8]>
 }
 
 /// Reads a length and so many bytes of content (RFC 9292, section 3.7).
-pub fn read_run(bytes: &[u8], long: Part) -> Result<Run<'_>, Stop>
-    ensures whole { IfOk result (λ run. Ends (RunOf long run.content.now) [] bytes.now run.taken) }
-    ensures stops { IfErr result (StopsThing (SomeOf (RunOf long)) (SomeOf (RunOf long)) bytes.now) }
+pub fn read_run(bytes: &[u8], length_part: Part) -> Result<Run<'_>, Stop>
+    ensures whole { IfOk result (λ run. Ends (RunOf length_part run.content.now) [] bytes.now run.taken) }
+    ensures stops { IfErr result (StopsAt (RunOf length_part) (RunOf length_part) bytes.now) }
 {
-    let number = read_number(bytes, GREATEST, long)?;
+    let number = read_number(bytes, GREATEST, length_part)?;
     match take_content(behind(bytes, number.taken), number.value) {
         Some(content) => Ok(Run {
             content,

@@ -4,7 +4,7 @@ ghost use Rattle.bh_spec.specs.Bounds.{no_bounds};
 ghost use Rattle.bh_model.specs.Values.{control_of, control_lent};
 ghost use Rattle.bh_control.specs.Pieces.{Ends};
 ghost use Rattle.bh_control.specs.Control.{ControlOf};
-ghost use Rattle.bh_decode.specs.Stops.{SomeOf, StopsThing, AtStop};
+ghost use Rattle.bh_decode.specs.Stops.{StopsAt, AtStop};
 
 use crate::fault::Fault;
 use crate::stop::Stop;
@@ -21,9 +21,9 @@ pub struct ControlData {
 }
 
 /// Reads control data, and answers how many bytes it has. It is then that of the reader.
-pub fn control_text(reader: &mut ControlReader, bytes: &[u8]) -> Result<usize, Stop>
+pub fn read_with(reader: &mut ControlReader, bytes: &[u8]) -> Result<usize, Stop>
     ensures whole { IfOk result (λ taken. Ends (ControlOf reader.old.limits reader.new.control) [] bytes.now taken) }
-    ensures stops { IfErr result (StopsThing (SomeOf (ControlOf reader.old.limits)) (SomeOf (ControlOf no_bounds)) bytes.now) }
+    ensures stops { IfErr result (StopsAt (ControlOf reader.old.limits) (ControlOf no_bounds) bytes.now) }
 {
     reader.begin();
     match reader.push(bytes) {
@@ -38,10 +38,6 @@ pub fn control_text(reader: &mut ControlReader, bytes: &[u8]) -> Result<usize, S
 
 /// A copy of the control data.
 fn own(alloc: Global, view: ControlView<'_>) -> Result<Control, NoMemory>
-    requires method { length view.method.now ≤ 2 ^ 40 }
-    requires scheme { length view.scheme.now ≤ 2 ^ 40 }
-    requires authority { length view.authority.now ≤ 2 ^ 40 }
-    requires path { length view.path.now ≤ 2 ^ 40 }
     ensures { IfOk result (λ control. control_of control ≡ control_lent view.entry) }
 {
     let method = Bytes::from_slice(alloc, view.method)?;
@@ -60,10 +56,10 @@ fn own(alloc: Global, view: ControlView<'_>) -> Result<Control, NoMemory>
 pub fn read_control(alloc: Global, limits: &Limits, bytes: &[u8]) -> Result<ControlData, Fault>
     requires { length bytes.now ≤ 2 ^ 40 }
     ensures whole { IfOk result (λ read. Ends (ControlOf limits.now (control_of read.control)) [] bytes.now read.taken) }
-    ensures stops { IfErr result (AtStop (StopsThing (SomeOf (ControlOf limits.now)) (SomeOf (ControlOf no_bounds)) bytes.now)) }
+    ensures stops { IfErr result (AtStop (StopsAt (ControlOf limits.now) (ControlOf no_bounds) bytes.now)) }
 {
     let mut reader = ControlReader::new(alloc, limits)?;
-    let taken = control_text(&mut reader, bytes)?;
+    let taken = read_with(&mut reader, bytes)?;
     let control = own(alloc, reader.view())?;
     Ok(ControlData { control, taken })
 }

@@ -2,7 +2,7 @@
 ghost use Rattle.std.specs.Prelude.{[], IfOk, IfErr};
 ghost use Rattle.bh_control.specs.Pieces.{Ends};
 ghost use Rattle.bh_decode.specs.Grammar.{IsFramed};
-ghost use Rattle.bh_decode.specs.Stops.{SomeOf, StopsThing};
+ghost use Rattle.bh_decode.specs.Stops.{StopsAt};
 
 use crate::number::read_number;
 use crate::stop::Stop;
@@ -19,7 +19,7 @@ pub struct Framing {
 /// Reads the framing number, of 0 to 3 (RFC 9292, section 3.3).
 pub fn read_framing(bytes: &[u8]) -> Result<Framing, Stop>
     ensures whole { IfOk result (λ framing. Ends (IsFramed (framing.kind, framing.form)) [] bytes.now framing.taken) }
-    ensures stops { IfErr result (StopsThing (SomeOf IsFramed) (SomeOf IsFramed) bytes.now) }
+    ensures stops { IfErr result (StopsAt IsFramed IsFramed bytes.now) }
 {
     let number = read_number(bytes, 3, Part::Framing)?;
     let (kind, form) = match number.value {

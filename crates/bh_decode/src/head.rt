@@ -1,9 +1,8 @@
 //! What stands behind the control data.
 ghost use Rattle.std.specs.Prelude.{◌≡◌, ◌≤◌, ◌^◌, None, length, IfOk, IfErr};
-ghost use Rattle.bh_spec.specs.Bounds.{no_bounds};
 ghost use Rattle.bh_control.specs.Pieces.{IsText};
 ghost use Rattle.bh_decode.specs.Grammar.{IsAfterStart, AfterOf};
-ghost use Rattle.bh_decode.specs.Stops.{Stops, AtStop};
+ghost use Rattle.bh_decode.specs.Stops.{FailsFor};
 
 use crate::fault::Fault;
 use crate::section::read_section;
@@ -15,28 +14,28 @@ use std::alloc::Global;
 
 /// What stands behind the control data.
 #[derive(Drop)]
-pub struct Parts {
+pub struct AfterControl {
     pub fields: Fields,
     pub tail: Tail,
 }
 
 /// Reads the header section, and what stands behind it (RFC 9292, section 3.1).
-pub fn read_parts(
+pub fn read_after_control(
     alloc: Global,
     reader: &mut SectionReader,
     form: Form,
     bytes: &[u8],
-) -> Result<Parts, Fault>
+) -> Result<AfterControl, Fault>
     requires { length bytes.now ≤ 2 ^ 40 }
-    ensures whole { IfOk result (λ parts. IsText (AfterOf reader.old.limits form parts.fields.lines parts.tail.content parts.tail.trailers.lines parts.tail.omitted parts.tail.padding) bytes.now) }
-    ensures ended { IfOk result (λ parts. parts.fields.making ≡ None) }
-    ensures trailers_ended { IfOk result (λ parts. parts.tail.trailers.making ≡ None) }
-    ensures stops { IfErr result (AtStop (Stops (IsAfterStart reader.old.limits form) (IsAfterStart no_bounds form) bytes.now)) }
+    ensures whole { IfOk result (λ after. IsText (AfterOf reader.old.limits form after.fields.lines after.tail.content after.tail.trailers.lines after.tail.omitted after.tail.padding) bytes.now) }
+    ensures ended { IfOk result (λ after. after.fields.making ≡ None) }
+    ensures trailers_ended { IfOk result (λ after. after.tail.trailers.making ≡ None) }
+    ensures stops { IfErr result (FailsFor (λ L. IsAfterStart L form) reader.old.limits bytes.now) }
 {
     let taken = read_section(reader, bytes, form, Place::Header)?;
     let fields = reader.fields().copy(alloc)?;
     match read_tail(alloc, reader, form, behind(bytes, taken)) {
-        Ok(tail) => Ok(Parts { fields, tail }),
+        Ok(tail) => Ok(AfterControl { fields, tail }),
         Err(fault) => Err(fault.behind(taken)),
     }
 }

@@ -1,7 +1,7 @@
 //! Numbers at the front of bytes.
 ghost use Rattle.std.specs.Prelude.{[], IfOk, IfErr};
 ghost use Rattle.bh_control.specs.Pieces.{Ends};
-ghost use Rattle.bh_decode.specs.Stops.{SomeOf, StopsThing};
+ghost use Rattle.bh_decode.specs.Stops.{StopsAt};
 ghost use Rattle.bh_decode.specs.Numbers.{NumberOf};
 
 use crate::stop::Stop;
@@ -21,7 +21,7 @@ pub struct Number {
 /// Reads a number of at most `most` (RFC 9000, section 16).
 pub fn read_number(bytes: &[u8], most: u64, part: Part) -> Result<Number, Stop>
     ensures whole { IfOk result (λ number. Ends (NumberOf part most number.value) [] bytes.now number.taken) }
-    ensures stops { IfErr result (StopsThing (SomeOf (NumberOf part most)) (SomeOf (NumberOf part most)) bytes.now) }
+    ensures stops { IfErr result (StopsAt (NumberOf part most) (NumberOf part most) bytes.now) }
 {
     let allowed = Allowed {
         zero: false,

@@ -5,8 +5,8 @@ ghost use Rattle.bh_model.specs.Values.{interim_of, AreEnded};
 ghost use Rattle.bh_control.specs.Pieces.{Ends};
 ghost use Rattle.bh_decode.specs.Contexts.{Context};
 ghost use Rattle.bh_decode.specs.Grammar.{IsResponseText, IsAfterStart};
-ghost use Rattle.bh_decode.specs.Responses.{StepIs, OpeningOf};
-ghost use Rattle.bh_decode.specs.Stops.{Stops, AtStop};
+ghost use Rattle.bh_decode.specs.Responses.{ResponsePartIs, OpeningOf};
+ghost use Rattle.bh_decode.specs.Stops.{FailsFor};
 
 use crate::fault::Fault;
 use crate::section::read_section;
@@ -18,7 +18,7 @@ use std::alloc::Global;
 
 /// An interim response, or the final status, and how many bytes it has.
 #[derive(Drop)]
-pub enum Step {
+pub enum ResponsePart {
     Interim { interim: Interim, taken: usize },
     Final { status: u16, taken: usize },
 }
@@ -33,30 +33,30 @@ pub struct Opening {
 
 /// Reads one more interim response behind `before` of them, of which there are at most `most`; or the final status (RFC
 /// 9292, section 3.5).
-fn read_step(
+fn read_part(
     alloc: Global,
     most: u64,
     reader: &mut SectionReader,
     form: Form,
     before: usize,
     bytes: &[u8],
-) -> Result<Step, Fault>
+) -> Result<ResponsePart, Fault>
     requires short { length bytes.now ≤ 2 ^ 40 }
     requires most { reader.old.limits.interims ≡ Some most }
     requires before { before ≤ most }
-    ensures whole { IfOk result (StepIs reader.old.limits form before bytes.now) }
+    ensures whole { IfOk result (ResponsePartIs reader.old.limits form before bytes.now) }
     ensures limits { reader.new.limits ≡ reader.old.limits }
-    ensures stops { IfErr result (AtStop (Stops (IsResponseText reader.old.limits form before) (IsResponseText no_bounds form before) bytes.now)) }
+    ensures stops { IfErr result (FailsFor (λ L. IsResponseText L form before) reader.old.limits bytes.now) }
 {
     let read = read_status(bytes, most - before as u64)?;
     if read.status >= 200 {
-        return Ok(Step::Final {
+        return Ok(ResponsePart::Final {
             status: read.status,
             taken: read.taken,
         });
     }
     match read_section(reader, behind(bytes, read.taken), form, Place::Header) {
-        Ok(taken) => Ok(Step::Interim {
+        Ok(taken) => Ok(ResponsePart::Interim {
             interim: Interim {
                 status: read.status,
                 fields: reader.fields().copy(alloc)?,
@@ -82,12 +82,12 @@ pub fn read_opening(
     ensures behind { IfOk result (λ opening. Context (IsResponseText reader.old.limits form 0) (IsAfterStart reader.old.limits form) (take opening.taken bytes.now) 0) }
     ensures anyway { IfOk result (λ opening. Context (IsResponseText no_bounds form 0) (IsAfterStart no_bounds form) (take opening.taken bytes.now) 0) }
     ensures limits { reader.new.limits ≡ reader.old.limits }
-    ensures stops { IfErr result (AtStop (Stops (IsResponseText reader.old.limits form 0) (IsResponseText no_bounds form 0) bytes.now)) }
+    ensures stops { IfErr result (FailsFor (λ L. IsResponseText L form 0) reader.old.limits bytes.now) }
 {
     let mut interims = Interims::none(alloc);
     let mut taken = 0;
     loop {
-        match read_step(
+        match read_part(
             alloc,
             most,
             reader,
@@ -96,7 +96,7 @@ pub fn read_opening(
             behind(bytes, taken),
         ) {
             Ok(
-                Step::Interim {
+                ResponsePart::Interim {
                     interim,
                     taken: more,
                 },
@@ -105,7 +105,7 @@ pub fn read_opening(
                 taken += more;
             }
             Ok(
-                Step::Final {
+                ResponsePart::Final {
                     status,
                     taken: more,
                 },

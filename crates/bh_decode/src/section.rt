@@ -4,7 +4,7 @@ ghost use Rattle.bh_spec.specs.Bounds.{no_bounds};
 ghost use Rattle.bh_control.specs.Pieces.{Ends};
 ghost use Rattle.bh_fields.specs.Sections.{SectionOf};
 ghost use Rattle.bh_fields.specs.Views.{whole};
-ghost use Rattle.bh_decode.specs.Stops.{SomeOf, StopsThing};
+ghost use Rattle.bh_decode.specs.Stops.{StopsAt};
 
 use crate::stop::Stop;
 use bh_fields::{SectionReader, SectionStep};
@@ -20,7 +20,7 @@ pub fn read_section(
     ensures whole { IfOk result (λ taken. Ends (SectionOf reader.old.limits form place reader.new.lines) [] bytes.now taken) }
     ensures stage { OnOk result (reader.new.stage ≡ whole) }
     ensures limits { reader.new.limits ≡ reader.old.limits }
-    ensures stops { IfErr result (StopsThing (SomeOf (SectionOf reader.old.limits form place)) (SomeOf (SectionOf no_bounds form place)) bytes.now) }
+    ensures stops { IfErr result (StopsAt (SectionOf reader.old.limits form place) (SectionOf no_bounds form place) bytes.now) }
 {
     reader.begin(form, place);
     match reader.push(bytes) {

@@ -2,7 +2,7 @@
 ghost use Rattle.std.specs.Prelude.{Some, None, [], IfOk, IfErr};
 ghost use Rattle.bh_control.specs.Pieces.{Ends};
 ghost use Rattle.bh_control.specs.Statuses.{StatusOf};
-ghost use Rattle.bh_decode.specs.Stops.{SomeOf, StopsThing};
+ghost use Rattle.bh_decode.specs.Stops.{StopsAt};
 
 use crate::stop::Stop;
 use bh_control::{StatusReader, StatusStep};
@@ -18,7 +18,7 @@ pub struct Status {
 /// Reads a status, with so many interim responses left (RFC 9292, section 3.5).
 pub fn read_status(bytes: &[u8], interims_left: u64) -> Result<Status, Stop>
     ensures whole { IfOk result (λ read. Ends (StatusOf (Some interims_left) read.status) [] bytes.now read.taken) }
-    ensures stops { IfErr result (StopsThing (SomeOf (StatusOf (Some interims_left))) (SomeOf (StatusOf None)) bytes.now) }
+    ensures stops { IfErr result (StopsAt (StatusOf (Some interims_left)) (StatusOf None) bytes.now) }
 {
     match StatusReader::new().push(bytes, interims_left) {
         StatusStep::Whole { taken, status } => Ok(Status { status, taken }),

@@ -1,9 +1,8 @@
 //! What stands behind the header section.
 ghost use Rattle.std.specs.Prelude.{◌≡◌, ◌≤◌, ◌^◌, None, length, IfOk, IfErr};
-ghost use Rattle.bh_spec.specs.Bounds.{no_bounds};
 ghost use Rattle.bh_control.specs.Pieces.{IsText};
 ghost use Rattle.bh_decode.specs.Grammar.{IsEndText, IsRestText, EndOf, RestOf};
-ghost use Rattle.bh_decode.specs.Stops.{Stops, AtStop};
+ghost use Rattle.bh_decode.specs.Stops.{FailsFor};
 
 use crate::body::read_body;
 use crate::fault::Fault;
@@ -16,7 +15,7 @@ use std::alloc::Global;
 
 /// A trailer section, and how many zeros stand behind it.
 #[derive(Drop)]
-struct End {
+struct TrailersAndPadding {
     trailers: Fields,
     padding: usize,
 }
@@ -36,16 +35,16 @@ fn read_end(
     reader: &mut SectionReader,
     form: Form,
     bytes: &[u8],
-) -> Result<End, Fault>
+) -> Result<TrailersAndPadding, Fault>
     requires { length bytes.now ≤ 2 ^ 40 }
     ensures whole { IfOk result (λ end. IsText (EndOf reader.old.limits form end.trailers.lines end.padding) bytes.now) }
     ensures ended { IfOk result (λ end. end.trailers.making ≡ None) }
     ensures limits { reader.new.limits ≡ reader.old.limits }
-    ensures stops { IfErr result (AtStop (Stops (IsEndText reader.old.limits form) (IsEndText no_bounds form) bytes.now)) }
+    ensures stops { IfErr result (FailsFor (λ L. IsEndText L form) reader.old.limits bytes.now) }
 {
     let taken = read_section(reader, bytes, form, Place::Trailer)?;
     match read_padding(behind(bytes, taken)) {
-        Ok(padding) => Ok(End {
+        Ok(padding) => Ok(TrailersAndPadding {
             trailers: reader.fields().copy(alloc)?,
             padding,
         }),
@@ -63,7 +62,7 @@ pub fn read_tail(
     requires { length bytes.now ≤ 2 ^ 40 }
     ensures whole { IfOk result (λ tail. IsText (RestOf reader.old.limits form tail.content tail.trailers.lines tail.omitted tail.padding) bytes.now) }
     ensures ended { IfOk result (λ tail. tail.trailers.making ≡ None) }
-    ensures stops { IfErr result (AtStop (Stops (IsRestText reader.old.limits form) (IsRestText no_bounds form) bytes.now)) }
+    ensures stops { IfErr result (FailsFor (λ L. IsRestText L form) reader.old.limits bytes.now) }
 {
     if bytes.is_empty() {
         return Ok(Tail {

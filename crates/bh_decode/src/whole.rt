@@ -1,16 +1,15 @@
 //! Whole messages.
 ghost use Rattle.std.specs.Prelude.{◌≡◌, ◌≤◌, ◌^◌, Some, length, IfOk, IfErr};
-ghost use Rattle.bh_spec.specs.Bounds.{no_bounds};
 ghost use Rattle.bh_spec.specs.Viable.{SpellsBytes};
 ghost use Rattle.bh_spec.specs.declared.Kind.TheVariants as kinds;
 ghost use Rattle.bh_control.specs.Pieces.{IsText};
 ghost use Rattle.bh_decode.specs.Grammar.{IsAfterFraming, IsMessageText, FramedOf};
-ghost use Rattle.bh_decode.specs.Stops.{Stops, AtStop};
+ghost use Rattle.bh_decode.specs.Stops.{FailsFor};
 
 use crate::control::read_control;
 use crate::fault::Fault;
 use crate::framing::read_framing;
-use crate::head::{Parts, read_parts};
+use crate::head::{AfterControl, read_after_control};
 use crate::opening::read_opening;
 use crate::slices::behind;
 use bh_fields::SectionReader;
@@ -36,11 +35,11 @@ fn read_request(
     requires short { length bytes.now ≤ 2 ^ 40 }
     requires limits { reader.old.limits ≡ limits.now }
     ensures whole { IfOk result (λ read. IsText (FramedOf limits.now kinds.Request form read.message read.omitted read.padding) bytes.now) }
-    ensures stops { IfErr result (AtStop (Stops (IsAfterFraming limits.now (kinds.Request, form)) (IsAfterFraming no_bounds (kinds.Request, form)) bytes.now)) }
+    ensures stops { IfErr result (FailsFor (λ L. IsAfterFraming L (kinds.Request, form)) limits.now bytes.now) }
 {
     let start = read_control(alloc, limits, bytes)?;
-    match read_parts(alloc, reader, form, behind(bytes, start.taken)) {
-        Ok(Parts { fields, tail }) => {
+    match read_after_control(alloc, reader, form, behind(bytes, start.taken)) {
+        Ok(AfterControl { fields, tail }) => {
             let (omitted, padding) = (tail.omitted, tail.padding);
             match Message::request(start.control, fields, tail.content, tail.trailers) {
                 Ok(message) => Ok(Whole {
@@ -66,11 +65,11 @@ fn read_response(
     requires short { length bytes.now ≤ 2 ^ 40 }
     requires limits { reader.old.limits ≡ limits.now }
     ensures whole { IfOk result (λ read. IsText (FramedOf limits.now kinds.Response form read.message read.omitted read.padding) bytes.now) }
-    ensures stops { IfErr result (AtStop (Stops (IsAfterFraming limits.now (kinds.Response, form)) (IsAfterFraming no_bounds (kinds.Response, form)) bytes.now)) }
+    ensures stops { IfErr result (FailsFor (λ L. IsAfterFraming L (kinds.Response, form)) limits.now bytes.now) }
 {
     let start = read_opening(alloc, limits.interims(), reader, form, bytes)?;
-    match read_parts(alloc, reader, form, behind(bytes, start.taken)) {
-        Ok(Parts { fields, tail }) => {
+    match read_after_control(alloc, reader, form, behind(bytes, start.taken)) {
+        Ok(AfterControl { fields, tail }) => {
             let (omitted, padding) = (tail.omitted, tail.padding);
             match Message::response(
                 start.interims,
@@ -101,7 +100,7 @@ fn read_framed(
 ) -> Result<Whole, Fault>
     requires { length bytes.now ≤ 2 ^ 40 }
     ensures whole { IfOk result (λ read. IsText (FramedOf limits.now kind form read.message read.omitted read.padding) bytes.now) }
-    ensures stops { IfErr result (AtStop (Stops (IsAfterFraming limits.now (kind, form)) (IsAfterFraming no_bounds (kind, form)) bytes.now)) }
+    ensures stops { IfErr result (FailsFor (λ L. IsAfterFraming L (kind, form)) limits.now bytes.now) }
 {
     let mut reader = SectionReader::new(alloc, limits)?;
     match kind {
@@ -114,9 +113,9 @@ fn read_framed(
 pub fn read_whole(alloc: Global, limits: &Limits, bytes: &[u8]) -> Result<Whole, Fault>
     requires { length bytes.now ≤ 2 ^ 40 }
     ensures whole { IfOk result (λ read. SpellsBytes limits.now read.message read.omitted read.padding bytes.now) }
-    ensures stops { IfErr result (AtStop (Stops (IsMessageText limits.now) (IsMessageText no_bounds) bytes.now)) }
+    ensures stops { IfErr result (FailsFor IsMessageText limits.now bytes.now) }
 {
-    // Within the limits there is a message at all.
+    // Some control data is within the limits, so it may follow each framing number.
     let part = limits.part();
     prove!(part >= 1);
     let framing = read_framing(bytes)?;

@@ -25,8 +25,8 @@ use Rattle.bh_fields.specs.Tracks.{Tracked}
 use Rattle.bh_fields.specs.Names.{MayBePseudo, NameTakes, flag_behind, ValueTakes, IsValueByte}
 use Rattle.bh_fields.specs.Points.{Point, spot_of, part_of, IsSized, NextState, NamedState, making_of, NameState, InValue, Moves, Goes, Outcome}
 use Rattle.bh_fields.proofs.Tracking.{tracked_step, tracked_same, tracked_dead}
-use Rattle.bh_fields.proofs.Strings.{name_whole, flag_on, name_good, flag_good, name_takes, value_takes, value_good, value_whole}
-use Rattle.bh_fields.proofs.Lines.{line_of, name_forth, name_back, name_to_value, value_to_name, value_forth, value_back, value_to_lines, lines_to_value}
+use Rattle.bh_fields.proofs.Strings.{line_of, name_whole, flag_on, name_good, flag_good, name_takes, value_takes, value_good, value_whole}
+use Rattle.bh_fields.proofs.Lines.{name_forth, name_back, name_to_value, value_to_name, value_forth, value_back, value_to_lines, lines_to_value}
 use Rattle.bh_fields.proofs.Counting.{name_allowed, values_begin, name_left_is, value_left_is, good_on}
 use Rattle.bh_fields.proofs.Memory.{lines_room-push}
 use Rattle.bh_fields.proofs.States.{name_next, value_next}
@@ -41,7 +41,7 @@ pub record IsStarted (old new : FieldsView) : Type 0 where
   pub spare : new.spare + 2 ≡ old.spare
   pub free : new.free + 1 ≡ old.free
 
-pub name_room : (p : Point) (n bytes : ℕ) → IsSized p → NamedState p n bytes → 0 < n → (n ≤ part_of p.limits) × (bytes + n ≤ p.total - p.used) × (1 ≤ p.total - p.used - (bytes + n))
+name_room : (p : Point) (n bytes : ℕ) → IsSized p → NamedState p n bytes → 0 < n → (n ≤ part_of p.limits) × (bytes + n ≤ p.total - p.used) × (1 ≤ p.total - p.used - (bytes + n))
 name_room p n bytes z h some = at (name_allowed p.form (part_of p.limits) (Some (p.total - p.used)) bytes n h.allowed)
   where
     at : ((p.form ≡ Indeterminate) × (n ≡ 0)) ⊎ ((0 < n) × (n ≤ part_of p.limits) × (bytes + n ≤ p.total - p.used) × (1 ≤ p.total - p.used - (bytes + n)))
@@ -55,7 +55,7 @@ start_fits p n bytes z h some one =
     let spare : 3 ≤ p.fields.spare = omega (arith, r.1, r.2, h.between.spare, h.between.room) in
     (spare, omega (arith, h.between.free))
 
-pub sized_started : (p : Point) (fields : FieldsView) → IsSized p → p.fields.making ≡ None → IsStarted p.fields fields → IsSized (with_lines fields p)
+sized_started : (p : Point) (fields : FieldsView) → IsSized p → p.fields.making ≡ None → IsStarted p.fields fields → IsSized (with_lines fields p)
 sized_started p fields z idle s = record {
   part_is = z.part_is;
   part_low = z.part_low;
@@ -67,7 +67,7 @@ sized_started p fields z idle s = record {
 }
 
 -- the same state with the lines given by an equation
-abbrev pub spot_with : Point → List Field → Spot
+abbrev spot_with : Point → List Field → Spot
 spot_with p done = record { form = p.form; place = p.place; total = p.total; used = p.used; done = done }
 
 pub name_begun : (p : Point) (n bytes : ℕ) (fields : FieldsView) → IsSized p → NamedState p n bytes → 0 < n → 1 ≤ bytes → IsStarted p.fields fields
@@ -112,10 +112,10 @@ pub record IsNamedOn (byte : ℕ) (old new : FieldsView) : Type 0 where
   pub spare : new.spare + 1 ≡ old.spare
   pub free : new.free ≡ old.free
 
-pub making_name : (byte : ℕ) (name : List ℕ) (old new : FieldsView) → old.making ≡ making_of name [] → IsNamedOn byte old new → new.making ≡ making_of (name ++ to_ascii_lowercase byte ∷ []) []
+making_name : (byte : ℕ) (name : List ℕ) (old new : FieldsView) → old.making ≡ making_of name [] → IsNamedOn byte old new → new.making ≡ making_of (name ++ to_ascii_lowercase byte ∷ []) []
 making_name byte name old new e s = s.making ∙ ap (option_map (name_grown byte)) e
 
-pub sized_named : (p : Point) (byte : ℕ) (name : List ℕ) (fields : FieldsView) → IsSized p → p.fields.making ≡ making_of name [] → IsNamedOn byte p.fields fields → IsSized (with_lines fields p)
+sized_named : (p : Point) (byte : ℕ) (name : List ℕ) (fields : FieldsView) → IsSized p → p.fields.making ≡ making_of name [] → IsNamedOn byte p.fields fields → IsSized (with_lines fields p)
 sized_named p byte name fields z e s = record {
   part_is = z.part_is;
   part_low = z.part_low;
@@ -142,7 +142,7 @@ named_point flag fields kept capacity p = record {
   capacity = capacity;
 }
 
-pub sized_flag : (flag : Bool) (kept : List ℕ) (capacity : ℕ) (p : Point) → IsSized p → capacity ≡ p.capacity → IsSized (named_point flag p.fields kept capacity p)
+sized_flag : (flag : Bool) (kept : List ℕ) (capacity : ℕ) (p : Point) → IsSized p → capacity ≡ p.capacity → IsSized (named_point flag p.fields kept capacity p)
 sized_flag flag kept capacity p z e = record {
   part_is = z.part_is;
   part_low = z.part_low;
@@ -153,7 +153,7 @@ sized_flag flag kept capacity p z e = record {
   count = z.count;
 }
 
-pub name_tracked : (p : Point) (m byte : ℕ) → IsSized p → (h : NameState p (suc m))
+name_tracked : (p : Point) (m byte : ℕ) → IsSized p → (h : NameState p (suc m))
     → Tracked p.form p.place (p.kept ++ byte ∷ []) (λ L fs t. NameLeft L (spot_of p) (h.name ++ to_ascii_lowercase byte ∷ []) m fs t)
 name_tracked p m byte z h =
     tracked_step p.form p.place p.kept (λ L fs t. NameLeft L (spot_of p) h.name (suc m) fs t) (λ L fs t. NameLeft L (spot_of p) (h.name ++ to_ascii_lowercase byte ∷ []) m fs t)
@@ -161,7 +161,7 @@ name_tracked p m byte z h =
     (λ K fs t l. name_forth K (spot_of p) h.name m byte fs t l) (λ K fs t l. name_back K (spot_of p) h.name m byte fs t l)
 
 -- the bytes of a name that goes on
-pub name_more : (p : Point) (m byte : ℕ) (flag : Bool) (fields : FieldsView) (kept : List ℕ) (capacity : ℕ) → byte < 256 → IsSized p → (h : NameState p (suc m)) → 0 < m
+name_more : (p : Point) (m byte : ℕ) (flag : Bool) (fields : FieldsView) (kept : List ℕ) (capacity : ℕ) → byte < 256 → IsSized p → (h : NameState p (suc m)) → 0 < m
     → NameTakes p.flag h.name (suc m) byte → flag ≡ flag_behind p.flag h.name byte → IsNamedOn byte p.fields fields → kept ≡ p.kept ++ byte ∷ [] → capacity ≡ p.capacity
     → Outcome judged.More p byte (phases.Name m) (named_point flag fields kept capacity p)
 name_more p m byte flag fields kept capacity small z h some takes ef s ek ec =
@@ -206,7 +206,7 @@ name_more p m byte flag fields kept capacity small z h some takes ef s ek ec =
         )
 
 -- the last byte of a name
-pub name_last : (p : Point) (byte : ℕ) (flag : Bool) (fields : FieldsView) (kept : List ℕ) (capacity : ℕ) → byte < 256 → IsSized p → (h : NameState p 1)
+name_last : (p : Point) (byte : ℕ) (flag : Bool) (fields : FieldsView) (kept : List ℕ) (capacity : ℕ) → byte < 256 → IsSized p → (h : NameState p 1)
     → NameTakes p.flag h.name 1 byte → flag ≡ flag_behind p.flag h.name byte → IsNamedOn byte p.fields fields → kept ≡ p.kept ++ byte ∷ [] → capacity ≡ p.capacity
     → Outcome judged.More p byte phases.ValueLength (named_point flag fields kept capacity p)
 name_last p byte flag fields kept capacity small z h takes ef s ek ec =
@@ -315,7 +315,7 @@ sized_valued p byte value m fields kept capacity z h s ec =
       count = rw (s.lines, making) (omega (arith, s.free, rw h.valued.making at z.count));
     }
 
-pub value_taken : (p : Point) (value : List ℕ) (m byte : ℕ) (fields : FieldsView) (kept : List ℕ) (capacity : ℕ) → IsSized p → InValue p value (suc m) → ValueTakes value (suc m) byte
+value_taken : (p : Point) (value : List ℕ) (m byte : ℕ) (fields : FieldsView) (kept : List ℕ) (capacity : ℕ) → IsSized p → InValue p value (suc m) → ValueTakes value (suc m) byte
     → IsValuedOn byte p.fields fields → kept ≡ p.kept ++ byte ∷ [] → InValue (valued_point fields kept capacity p) (value ++ byte ∷ []) m
 value_taken p value m byte fields kept capacity z h takes s ek =
     subst (λ (k : List ℕ). InValue (valued_point fields k capacity p) (value ++ byte ∷ []) m) (sym ek)

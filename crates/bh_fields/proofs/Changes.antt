@@ -1,5 +1,5 @@
 -- What is stored of a section, with other numbers, lines and bytes.
-use Rattle.std.proofs.Common.{◌≡◌, ◌<◌, ◌≤◌, ◌+◌, ◌-◌, arith, ℕ, Bool, List, [], ◌∷◌, ◌++◌, length, Option, Some, sym, ap, subst, ◌∙◌, drop, unwrap_or}
+use Rattle.std.proofs.Common.{◌≡◌, ◌<◌, ◌≤◌, ◌+◌, ◌-◌, arith, ℕ, List, [], ◌∷◌, ◌++◌, length, Option, Some, sym, ap, subst, ◌∙◌, drop, unwrap_or}
 use Rattle.std.proofs.lemmas.List.{length-append, drop_at}
 use Rattle.bh_spec.specs.Bounds.{Bounds}
 use Rattle.bh_spec.specs.Bytes.{lower}
@@ -8,7 +8,7 @@ use Rattle.bh_fields.specs.declared.walk.Phase.{Phase}
 use Rattle.bh_fields.specs.declared.walk.Judged.{Judged}
 use Rattle.bh_fields.specs.declared.walk.Judged.TheVariants as judged
 use Rattle.bh_fields.specs.Sets.{names_set, values_set}
-use Rattle.bh_fields.specs.Points.{Point, part_of, most_of, IsSized, LengthState, LineState, NameAt, NameState, ValueLengthState, InValue, IsSame, Moves, Outcome}
+use Rattle.bh_fields.specs.Points.{Point, part_of, most_of, IsSized, LineState, NameAt, ValueLengthState, IsSame, Moves, Outcome}
 use Rattle.bh_fields.proofs.Numbers.{begun_7}
 
 -- ---- a point with other numbers, lines and bytes
@@ -73,21 +73,6 @@ of_used used name_at p = record {
   capacity = p.capacity;
 }
 
-abbrev pub of_flag : Bool → Point → Point
-of_flag flag p = record {
-  limits = p.limits;
-  form = p.form;
-  place = p.place;
-  total = p.total;
-  used = p.used;
-  number = p.number;
-  flag = flag;
-  name_at = p.name_at;
-  fields = p.fields;
-  kept = p.kept;
-  capacity = p.capacity;
-}
-
 pub sized_number : (number kept : List ℕ) (capacity : ℕ) (p : Point) → IsSized p → capacity ≡ p.capacity → IsSized (with_number number kept capacity p)
 sized_number number kept capacity p z e = record {
   part_is = z.part_is;
@@ -95,17 +80,6 @@ sized_number number kept capacity p z e = record {
   most_is = z.most_is;
   most_high = z.most_high;
   capacity = omega (arith, z.capacity);
-  bytes = z.bytes;
-  count = z.count;
-}
-
-pub sized_total : (total : ℕ) (p : Point) → IsSized p → IsSized (of_total total p)
-sized_total total p z = record {
-  part_is = z.part_is;
-  part_low = z.part_low;
-  most_is = z.most_is;
-  most_high = z.most_high;
-  capacity = z.capacity;
   bytes = z.bytes;
   count = z.count;
 }
@@ -132,20 +106,11 @@ push_long kept byte = length-append kept (byte ∷ [])
 
 -- ---- there is room for the byte
 
-pub length_fits : (p : Point) → IsSized p → LengthState p → length p.kept < p.capacity
-length_fits p z h = omega (arith, z.capacity, h.long)
-
 pub line_fits : (p : Point) → IsSized p → LineState p → length p.kept < p.capacity
 line_fits p z h = omega (arith, z.capacity, h.long, h.between.room, begun_7 (names_set p.form (part_of p.limits) (Some (p.total - p.used))) p.number h.unfinished h.live)
 
-pub name_fits : (p : Point) (missing : ℕ) → IsSized p → NameState p missing → length p.kept < p.capacity
-name_fits p missing z h = omega (arith, z.capacity, h.long, h.room)
-
 pub value_length_fits : (p : Point) → IsSized p → ValueLengthState p → length p.kept < p.capacity
 value_length_fits p z h = omega (arith, z.capacity, h.long, h.valued.room, begun_7 (values_set p.form (part_of p.limits) (Some (p.total - p.used))) p.number h.unfinished h.live)
-
-pub value_fits : (p : Point) (value : List ℕ) (missing : ℕ) → IsSized p → InValue p value missing → length p.kept < p.capacity
-value_fits p value missing z h = omega (arith, z.capacity, h.long, h.valued.room)
 
 -- a move behind a byte that was taken
 pub moved : (judged : Judged) (p q : Point) (byte : ℕ) (phase : Phase) (r : Point) → IsSame p q → q.kept ≡ p.kept ++ byte ∷ [] → Moves judged q phase r → Outcome judged p byte phase r

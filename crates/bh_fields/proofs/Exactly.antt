@@ -138,7 +138,7 @@ taken_more (x ∷ xs) zero h = refl
 taken_more (x ∷ xs) (suc i) h =
     ap (λ (n : ℕ). take n (x ∷ xs)) (let e : suc i + 1 ≡ suc (i + 1) = omega arith in e) ∙ ap (λ (z : List ℕ). x ∷ z) (taken_more xs i (omega arith))
 
-pub on_more : (v w : SectionView) (piece : List ℕ) (o : ℕ) → o < length piece → IsOn v w piece o → w.bytes ++ get_or piece o 0 ∷ [] ≡ v.bytes ++ take (o + 1) piece
+on_more : (v w : SectionView) (piece : List ℕ) (o : ℕ) → o < length piece → IsOn v w piece o → w.bytes ++ get_or piece o 0 ∷ [] ≡ v.bytes ++ take (o + 1) piece
 on_more v w piece o h on =
     ap (λ (x : List ℕ). x ++ get_or piece o 0 ∷ []) on.bytes ∙ append_assoc v.bytes (take o piece) (get_or piece o 0 ∷ []) ∙ ap (λ (x : List ℕ). v.bytes ++ x) (sym (taken_more piece o h))
 
@@ -191,12 +191,3 @@ need_shows v piece o part h next =
       begins = next_begins v.limits v.form v.place (v.bytes ++ piece) part n;
       unfinished = λ fields h. next_unfinished v.limits v.limits v.form v.place fields (v.bytes ++ piece) part n h;
     }
-
--- the next part behind a byte that was taken
-pub next_on : (v w u : SectionView) (piece : List ℕ) (o : ℕ) (part : Part) → o < length piece → IsOn v w piece o → Takes judged.More w (get_or piece o 0) u
-    → IsNextPart u.limits u.form u.place u.bytes part → IsNextPart v.limits v.form v.place (v.bytes ++ take (o + 1) piece) part
-next_on v w u piece o part h on t n =
-    subst (λ (L : Bounds). IsNextPart L v.form v.place (v.bytes ++ take (o + 1) piece) part) (t.0.limits ∙ on.limits)
-    (subst (λ (f : Form). IsNextPart u.limits f v.place (v.bytes ++ take (o + 1) piece) part) (t.0.form ∙ on.form)
-    (subst (λ (p : Place). IsNextPart u.limits u.form p (v.bytes ++ take (o + 1) piece) part) (t.0.place ∙ on.place)
-    (subst (λ (x : List ℕ). IsNextPart u.limits u.form u.place x part) (t.1 ∙ on_more v w piece o h on) n)))

@@ -1,6 +1,5 @@
 pub mod Numbers
 pub mod Tracking
-pub mod Filling
 pub mod Strings
 pub mod Lines
 pub mod Counting

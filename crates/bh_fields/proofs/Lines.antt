@@ -14,21 +14,22 @@ use Rattle.bh_spec.specs.Bytes.{lower}
 use Rattle.bh_spec.specs.Messages.{Field}
 use Rattle.bh_spec.specs.Texts.{Text, mark, IsNumber}
 use Rattle.bh_spec.specs.Sections.{IsLine}
-use Rattle.bh_spec.proofs.Sections.{IsNamed, line_nonempty}
+use Rattle.bh_spec.proofs.Sections.{IsNamed}
 use Rattle.bh_spec.proofs.Widths.{length-vi}
 use Rattle.bh_fields.specs.Rests.{Spot, further, with_line, NumberThen, AreGood, HasMore, Ends, LinesLeft, IsEnded, ValueLeft, ValueBody, NameLeft, NameBody}
-use Rattle.bh_fields.proofs.Numbers.{length-mark}
+use Rattle.bh_spec.proofs.Marks.{length-mark}
+use Rattle.bh_fields.proofs.Strings.{line_of}
 use Rattle.bh_fields.proofs.Tracking.{lines_named}
 
 -- a line among the lines up to the end
-pub record LineFirst (L : Bounds) (form : Form) (total used : ℕ) (line : Field) (more : List Field) (t : Text) : Type 0 where
-  pub text : Text
-  pub behind : Text
-  pub is : IsLine line text
-  pub joined : t ≡ text ++ behind
-  pub ends : Ends L form total (used + length text) more behind
+record LineFirst (L : Bounds) (form : Form) (total used : ℕ) (line : Field) (more : List Field) (t : Text) : Type 0 where
+  text : Text
+  behind : Text
+  is : IsLine line text
+  joined : t ≡ text ++ behind
+  ends : Ends L form total (used + length text) more behind
 
-pub line_first : (L : Bounds) (form : Form) (total used : ℕ) (line : Field) (more : List Field) (t : Text) → Ends L form total used (line ∷ more) t
+line_first : (L : Bounds) (form : Form) (total used : ℕ) (line : Field) (more : List Field) (t : Text) → Ends L form total used (line ∷ more) t
     → LineFirst L form total used line more t
 line_first L Known total used line more t h = record {
   text = h.0.0;
@@ -47,7 +48,7 @@ line_first L Indeterminate total used line more t h =
       ends = (l.1, h.1, l.3, h.3, refl, subst (IsWithin L.section) (omega (arith, ap length l.4, length-append l.0 l.1)) h.5);
     }
 
-pub line_before : (L : Bounds) (form : Form) (total used : ℕ) (line : Field) (more : List Field) (x y : Text) → IsLine line x
+line_before : (L : Bounds) (form : Form) (total used : ℕ) (line : Field) (more : List Field) (x y : Text) → IsLine line x
     → Ends L form total (used + length x) more y → Ends L form total used (line ∷ more) (x ++ y)
 line_before L Known total used line more x y is h = ((x, y, is, h.0, refl), omega (arith, h.1, length-append x y), h.2)
 line_before L Indeterminate total used line more x y is h = (
@@ -241,15 +242,6 @@ number_to_lines L s fields t h = at h.body
           ends = subst (Ends L s.form s.total s.used (line ∷ l.more)) (sym joined) (line_before L s.form s.total s.used line l.more x b.behind is ends);
         }
 
--- the bytes of a known length are all there
-pub lines_to_end : (L : Bounds) (s : Spot) (fields : List Field) (t : Text) → s.form ≡ Known → s.used ≡ s.total → LinesLeft L s fields t → IsEnded L s fields t
-lines_to_end L s fields t known full h =
-    at h.more h.whole (subst (λ (f : Form). Ends L f s.total s.used h.more t) known h.ends)
-  where
-    at : (more : List Field) → fields ≡ s.done ++ more → Ends L Known s.total s.used more t → IsEnded L s fields t
-    at [] w e = record { nothing = e.0; whole = w ∙ append-nil s.done; good = h.good; within = subst (IsWithin L.section) (sym full) e.2 }
-    at (line ∷ more) w e = absurd (omega (arith, e.1, full, ap length e.0.4, length-append e.0.0 e.0.1, line_nonempty line e.0.0 e.0.2))
-
 pub end_to_lines : (L : Bounds) (s : Spot) (fields : List Field) (t : Text) → s.form ≡ Known → s.used ≡ s.total → IsEnded L s fields t → LinesLeft L s fields t
 end_to_lines L s fields t known full h = record {
   more = [];
@@ -317,9 +309,6 @@ value_to_name L s name fields t h = record {
   spelled = refl;
   value = subst (λ (x : List ℕ). NumberThen parts.ValueLength (ValueBody L s x fields) t) (sym (append-nil name)) h;
 }
-
-abbrev pub line_of : List ℕ → List ℕ → Field
-line_of name value = record { name = name; value = value }
 
 pub value_forth : (L : Bounds) (s : Spot) (name value : List ℕ) (m byte : ℕ) (fields : List Field) (t : Text) → ValueLeft L s name value (suc m) fields ((parts.Value, byte) ∷ t)
     → ValueLeft L s name (value ++ byte ∷ []) m fields t

@@ -19,7 +19,8 @@ use Rattle.bh_fields.specs.Sets.{lines_set, names_set, values_set, free_room}
 use Rattle.bh_fields.specs.Sections.{IsSectionOf}
 use Rattle.bh_fields.specs.Rests.{NumberThen, CanEnd, HasMore, LinesLeft, NameBody}
 use Rattle.bh_fields.specs.Points.{Point, spot_of, part_of, most_of, IsSized, IsBounded, LengthState, NextState, LineState, NamedState, ValueLengthState, InValue, IsFull, Moves, Goes, Outcome}
-use Rattle.bh_fields.proofs.Numbers.{begun_7, count_1}
+use Rattle.bh_spec.proofs.Widths.{count_1}
+use Rattle.bh_fields.proofs.Numbers.{begun_7}
 use Rattle.bh_fields.proofs.Tracking.{tracked_same, tracked_whole}
 use Rattle.bh_fields.proofs.Strings.{value_begun}
 use Rattle.bh_fields.proofs.Lines.{lines_to_number, number_to_lines, end_to_lines}
@@ -90,15 +91,15 @@ length_whole p byte n w kept capacity z h whole ek =
     free = omega (arith, rw (h.empty, h.idle) at z.count)
 
 -- a number that is refused
-pub refused_limit : (p : Point) (byte : ℕ) (phase : Phase) (capacity : ℕ) → IsSized p → capacity ≡ p.capacity → (Goes p.limits p byte → ⊥) → Goes no_bounds p byte
+refused_limit : (p : Point) (byte : ℕ) (phase : Phase) (capacity : ℕ) → IsSized p → capacity ≡ p.capacity → (Goes p.limits p byte → ⊥) → Goes no_bounds p byte
     → Outcome judged.Limit p byte phase (with_number [] p.kept capacity p)
 refused_limit p byte phase capacity z e a b = (sized_number [] p.kept capacity p z e, (a, b), record { limits = refl; form = refl; place = refl }, refl)
 
-pub refused_dead : (p : Point) (byte : ℕ) (phase : Phase) (capacity : ℕ) → IsSized p → capacity ≡ p.capacity → (Goes p.limits p byte → ⊥) → (Goes no_bounds p byte → ⊥)
+refused_dead : (p : Point) (byte : ℕ) (phase : Phase) (capacity : ℕ) → IsSized p → capacity ≡ p.capacity → (Goes p.limits p byte → ⊥) → (Goes no_bounds p byte → ⊥)
     → Outcome judged.Dead p byte phase (with_number [] p.kept capacity p)
 refused_dead p byte phase capacity z e a b = (sized_number [] p.kept capacity p z e, (a, b), record { limits = refl; form = refl; place = refl }, refl)
 
-pub length_stops : (p : Point) (byte : ℕ) → IsSized p → LengthState p → (SomeBegins (lines_set (most_of p.limits)) (p.number ++ byte ∷ []) → ⊥) → Goes p.limits p byte → ⊥
+length_stops : (p : Point) (byte : ℕ) → IsSized p → LengthState p → (SomeBegins (lines_set (most_of p.limits)) (p.number ++ byte ∷ []) → ⊥) → Goes p.limits p byte → ⊥
 length_stops p byte z h dead =
     number_stops p.form p.place p.kept parts.SectionLength (LengthAt p) p.limits p.number byte h.tracked (length_next p z h) h.unfinished p.limits (lines_set (most_of p.limits))
     (length_only p.limits (spot_of p) (most_of p.limits) (most_to p z) h.known h.unused h.empty) dead
@@ -169,7 +170,7 @@ next_more p z h part = (
 -- ---- the length of a name
 
 -- a whole number has as many bytes as its width
-pub length_is : {set : Allowed} {bytes : List ℕ} {n : ℕ} {w : Width} → IsWhole set bytes n w → length bytes ≡ byte_count w
+length_is : {set : Allowed} {bytes : List ℕ} {n : ℕ} {w : Width} → IsWhole set bytes n w → length bytes ≡ byte_count w
 length_is {set} {bytes} {n} {w} h = sym (ap length h.spelled) ∙ length-vi n w
 
 pub line_more : (p : Point) (byte : ℕ) (number kept : List ℕ) (capacity : ℕ) → IsSized p → LineState p
@@ -221,7 +222,7 @@ line_whole p byte n w kept capacity z h whole ek =
           h.tracked (line_next p z h) whole;
     })
 
-pub line_stops : (p : Point) (byte : ℕ) → IsSized p → LineState p
+line_stops : (p : Point) (byte : ℕ) → IsSized p → LineState p
     → (SomeBegins (names_set p.form (part_of p.limits) (Some (p.total - p.used))) (p.number ++ byte ∷ []) → ⊥) → Goes p.limits p byte → ⊥
 line_stops p byte z h dead =
     number_stops p.form p.place p.kept parts.NameLength (NamesAt p) p.limits p.number byte h.tracked (line_next p z h) h.unfinished p.limits
@@ -307,7 +308,7 @@ value_length_more p byte number kept capacity z h on en ek ec =
       refl,
     )
 
-pub value_length_stops : (p : Point) (byte : ℕ) → IsSized p → ValueLengthState p
+value_length_stops : (p : Point) (byte : ℕ) → IsSized p → ValueLengthState p
     → (SomeBegins (values_set p.form (part_of p.limits) (Some (p.total - p.used))) (p.number ++ byte ∷ []) → ⊥) → Goes p.limits p byte → ⊥
 value_length_stops p byte z h dead =
     number_stops p.form p.place p.kept parts.ValueLength (ValuesAt p h.name) p.limits p.number byte h.tracked (value_length_next p z h) h.unfinished p.limits

@@ -18,7 +18,8 @@ use Rattle.bh_fields.specs.Names.{NameGood, NameTakes, flag_behind, ValueGood, V
 use Rattle.bh_fields.specs.Rests.{NumberThen, LinesLeft, NameBody, ValueBody, LengthBody}
 use Rattle.bh_fields.specs.Sections.{SectionBegins}
 use Rattle.bh_fields.specs.Sets.{lines_set, names_set, values_set}
-use Rattle.bh_fields.proofs.Numbers.{bytes_front, number_alive, Continues}
+use Rattle.bh_spec.proofs.Marks.{marked_bytes}
+use Rattle.bh_fields.proofs.Numbers.{number_alive, Continues}
 use Rattle.bh_fields.proofs.Strings.{name_goes_on, name_good, flag_good, name_takes, value_goes_on, value_good, value_takes}
 use Rattle.bh_fields.proofs.Lines.{lines_to_number, number_to_lines}
 use Rattle.bh_fields.proofs.Counting.{length_only, length_from, value_only, value_from, name_only, name_from}
@@ -30,7 +31,7 @@ number_begins : (part : Part) (Body : ℕ → ℕ → Text → Type 0) (set : Al
     → NumberThen part Body u → bytes_of u ≡ (now ++ byte ∷ []) ++ after → SomeBegins set (now ++ byte ∷ [])
 number_begins part Body set now byte after u un only h e =
     let front = front_unfinished now (byte ∷ after) (bytes_of h.behind) h.number h.width un h.fits
-    (sym (bytes_front part (vi h.number h.width) h.behind) ∙ sym (ap bytes_of h.spelled) ∙ e ∙ append_assoc now (byte ∷ []) after) in
+    (sym (marked_bytes part (vi h.number h.width) h.behind) ∙ sym (ap bytes_of h.spelled) ∙ e ∙ append_assoc now (byte ∷ []) after) in
     at front.0 front.1 front.2
   where
     at : (rest : List ℕ) → vi h.number h.width ≡ now ++ rest → byte ∷ after ≡ rest ++ bytes_of h.behind → SomeBegins set (now ++ byte ∷ [])
@@ -48,7 +49,7 @@ begins_number : (part : Part) (Body : List Field → ℕ → ℕ → Text → Ty
     → TextBegins (λ fields t. NumberThen part (Body fields) t) bytes
 begins_number part Body set bytes from h =
     let a = number_alive part Body set bytes from h in
-    record { fields = a.0; text = mark part bytes ++ a.1; after = bytes_of a.1; is = a.2; begins = bytes_front part bytes a.1 }
+    record { fields = a.0; text = mark part bytes ++ a.1; after = bytes_of a.1; is = a.2; begins = marked_bytes part bytes a.1 }
 
 pub section_length_alive : SectionLengthAlive
 section_length_alive L place most byte now to from two un = (alive, only)

@@ -1,5 +1,5 @@
 -- What a number's byte makes of a section, whatever the number is; and the part of the next byte in each state.
-use Rattle.std.proofs.Common.{◌≡◌, ◌<◌, ◌≤◌, ◌-◌, arith, ℕ, List, [], ◌∷◌, ◌++◌, length, Option, Some, refl, sym, ap, subst, unwrap_or}
+use Rattle.std.proofs.Common.{◌≡◌, ◌<◌, ◌≤◌, ◌-◌, arith, ℕ, List, [], ◌∷◌, ◌++◌, length, Option, Some, refl, sym, subst}
 use Rattle.bh_spec.specs.declared.Allowed.{Allowed}
 use Rattle.bh_spec.specs.declared.Form.{Form}
 use Rattle.bh_spec.specs.declared.Form.TheVariants.{Known, Indeterminate}
@@ -11,6 +11,8 @@ use Rattle.bh_spec.specs.Bounds.{Bounds, IsWithin, no_bounds}
 use Rattle.bh_spec.specs.Canonical.{greatest}
 use Rattle.bh_spec.specs.Messages.{Field}
 use Rattle.bh_spec.specs.Texts.{Text, mark}
+use Rattle.bh_spec.proofs.Marks.{mark-snoc}
+use Rattle.bh_spec.proofs.Within.{within_some, some_within}
 use Rattle.bh_varint.specs.Step.{IsWhole, IsUnfinished}
 use Rattle.bh_model.specs.declared.field.Place.{Place}
 use Rattle.bh_fields.specs.declared.walk.Phase.{Phase}
@@ -21,7 +23,7 @@ use Rattle.bh_fields.specs.Rests.{NumberThen, AreGood, ValueLeft, ValueBody, Nam
 use Rattle.bh_fields.specs.Tracks.{Tracked}
 use Rattle.bh_fields.specs.Phases.{part_at}
 use Rattle.bh_fields.specs.Points.{Point, spot_of, part_of, most_of, IsSized, IsBounded, LengthState, Between, LineState, NameState, Valued, ValueLengthState, InValue, ReadingAt}
-use Rattle.bh_fields.proofs.Numbers.{mark_on, number_to, number_from, number_dead, number_alive, number_opens, Continues}
+use Rattle.bh_fields.proofs.Numbers.{number_to, number_from, number_dead, number_alive, number_opens, Continues}
 use Rattle.bh_fields.proofs.Tracking.{tracked_next, tracked_step, tracked_same, tracked_dead, tracked_alive}
 use Rattle.bh_fields.proofs.Strings.{name_goes_on, value_goes_on}
 use Rattle.bh_fields.specs.Alive.{Caps, RoomIs, RoomWithin}
@@ -32,7 +34,7 @@ use Rattle.bh_fields.proofs.Counting.{length_from, value_from, value_opens, name
 abbrev pub NumberText : Part → (Bounds → List Field → ℕ → ℕ → Text → Type 0) → List ℕ → Bounds → List Field → Text → Type 0
 NumberText part Body now L fields t = NumberThen part (Body L fields) (mark part now ++ t)
 
-pub number_next : (form : Form) (place : Place) (kept : List ℕ) (part : Part) (Body : Bounds → List Field → ℕ → ℕ → Text → Type 0) (L : Bounds) (set : Allowed) (now : List ℕ)
+number_next : (form : Form) (place : Place) (kept : List ℕ) (part : Part) (Body : Bounds → List Field → ℕ → ℕ → Text → Type 0) (L : Bounds) (set : Allowed) (now : List ℕ)
     → Tracked form place kept (NumberText part Body now) → Continues (Body L) set → IsUnfinished now → SomeBegins set now → IsNextPart L form place kept part
 number_next form place kept part Body L set now T from un live =
     let o = number_opens part (Body L) set now from un live in
@@ -42,8 +44,8 @@ pub number_more : (form : Form) (place : Place) (kept : List ℕ) (part : Part) 
     → Tracked form place kept (NumberText part Body now) → IsNextPart L form place kept part → Tracked form place (kept ++ byte ∷ []) (NumberText part Body (now ++ byte ∷ []))
 number_more form place kept part Body L now byte T next =
     tracked_step form place kept (NumberText part Body now) (NumberText part Body (now ++ byte ∷ [])) T L part byte next
-    (λ K fields t h. subst (NumberThen part (Body K fields)) (sym (mark_on part now byte t)) h)
-    (λ K fields t h. subst (NumberThen part (Body K fields)) (mark_on part now byte t) h)
+    (λ K fields t h. subst (NumberThen part (Body K fields)) (sym (mark-snoc part now byte t)) h)
+    (λ K fields t h. subst (NumberThen part (Body K fields)) (mark-snoc part now byte t) h)
 
 pub number_value : (form : Form) (place : Place) (kept : List ℕ) (part : Part) (Body : Bounds → List Field → ℕ → ℕ → Text → Type 0) (L : Bounds) (set : Allowed) (now : List ℕ) (byte n : ℕ) (w : Width)
     → Tracked form place kept (NumberText part Body now) → IsNextPart L form place kept part → IsWhole set (now ++ byte ∷ []) n w
@@ -69,24 +71,18 @@ pub number_lives : (form : Form) (place : Place) (kept : List ℕ) (part : Part)
     → SectionBegins K form place (kept ++ byte ∷ [])
 number_lives form place kept part Body now byte T K set from live =
     let a = number_alive part (Body K) set (now ++ byte ∷ []) from live in
-    tracked_alive form place kept (NumberText part Body now) T K part byte a.0 a.1 (subst (NumberThen part (Body K a.0)) (mark_on part now byte a.1) a.2)
+    tracked_alive form place kept (NumberText part Body now) T K part byte a.0 a.1 (subst (NumberThen part (Body K a.0)) (mark-snoc part now byte a.1) a.2)
 
 -- ---- the limits, as numbers
 
-some_to : (o : Option ℕ) (most n : ℕ) → o ≡ Some most → IsWithin o n → n ≤ most
-some_to o most n e h = subst (λ (x : Option ℕ). IsWithin x n) e h
-
-some_from : (o : Option ℕ) (most n : ℕ) → o ≡ Some most → n ≤ most → IsWithin o n
-some_from o most n e h = subst (λ (x : Option ℕ). IsWithin x n) (sym e) h
-
 pub most_to : (p : Point) → IsSized p → (n : ℕ) → n ≤ greatest → IsWithin p.limits.section n → n ≤ most_of p.limits
-most_to p z n g h = some_to p.limits.section (most_of p.limits) n z.most_is h
+most_to p z n g h = within_some p.limits.section (most_of p.limits) n z.most_is h
 
 pub most_from : (p : Point) → IsSized p → (n : ℕ) → n ≤ most_of p.limits → IsWithin p.limits.section n
-most_from p z n h = some_from p.limits.section (most_of p.limits) n z.most_is h
+most_from p z n h = some_within p.limits.section (most_of p.limits) n z.most_is h
 
-pub two_within : (p : Point) → IsSized p → IsWithin p.limits.part 2
-two_within p z = some_from p.limits.part (part_of p.limits) 2 z.part_is (omega (arith, z.part_low))
+two_within : (p : Point) → IsSized p → IsWithin p.limits.part 2
+two_within p z = some_within p.limits.part (part_of p.limits) 2 z.part_is (omega (arith, z.part_low))
 
 room_of : (L : Bounds) (form : Form) (total used : ℕ) → IsBounded L form total → used ≤ total → RoomIs L form total used (Some (total - used))
 room_of L Known total used b h = (refl, h, b)
@@ -94,8 +90,8 @@ room_of L Indeterminate total used b h = subst (λ (o : Option ℕ). RoomWithin 
 
 pub caps_of : (p : Point) → IsSized p → IsBounded p.limits p.form p.total → p.used ≤ p.total → Caps p.limits (spot_of p) (part_of p.limits) (Some (p.total - p.used))
 caps_of p z b h = record {
-  to = λ n g w. some_to p.limits.part (part_of p.limits) n z.part_is w;
-  from = λ n w. some_from p.limits.part (part_of p.limits) n z.part_is w;
+  to = λ n g w. within_some p.limits.part (part_of p.limits) n z.part_is w;
+  from = λ n w. some_within p.limits.part (part_of p.limits) n z.part_is w;
   low = omega (arith, z.part_low);
   room_is = room_of p.limits p.form p.total p.used b h;
 }
@@ -115,10 +111,6 @@ caps_free p h = record {
 good_free : (L : Bounds) (place : Place) (fields : List Field) → AreGood L place fields → AreGood no_bounds place fields
 good_free L place fields g = record { valid = g.valid; names = λ k d i. tt; values = λ k d i. tt }
 
-pub total_most : (p : Point) → IsSized p → (form : Form) → IsBounded p.limits form p.total → p.total ≤ most_of p.limits
-total_most p z Known b = some_to p.limits.section (most_of p.limits) p.total z.most_is b
-total_most p z Indeterminate b = omega (arith, ap (λ (o : Option ℕ). unwrap_or o 0) b)
-
 -- ---- the part of the next byte
 
 abbrev pub LengthAt : Point → Bounds → List Field → ℕ → ℕ → Text → Type 0
@@ -130,19 +122,19 @@ NamesAt p L fields n bytes t = NameBody L (spot_of p) fields n bytes t
 abbrev pub ValuesAt : Point → List ℕ → Bounds → List Field → ℕ → ℕ → Text → Type 0
 ValuesAt p name L fields n bytes t = ValueBody L (spot_of p) name fields n bytes t
 
-pub lengths_from : (p : Point) → IsSized p → LengthState p → Continues (LengthAt p p.limits) (lines_set (most_of p.limits))
+lengths_from : (p : Point) → IsSized p → LengthState p → Continues (LengthAt p p.limits) (lines_set (most_of p.limits))
 lengths_from p z h = length_from p.limits (spot_of p) (most_of p.limits) (most_from p z) (two_within p z) h.known h.unused h.good
 
 pub lengths_free : (p : Point) → LengthState p → Continues (LengthAt p no_bounds) (lines_set greatest)
 lengths_free p h = length_from no_bounds (spot_of p) greatest (λ n g. tt) tt h.known h.unused (good_free p.limits p.place p.fields.lines h.good)
 
-pub names_from : (p : Point) → IsSized p → Between p → Continues (NamesAt p p.limits) (names_set p.form (part_of p.limits) (Some (p.total - p.used)))
+names_from : (p : Point) → IsSized p → Between p → Continues (NamesAt p p.limits) (names_set p.form (part_of p.limits) (Some (p.total - p.used)))
 names_from p z b = name_from p.limits (spot_of p) (part_of p.limits) (Some (p.total - p.used)) (caps_of p z b.bounded b.room) b.good
 
 pub names_free : (p : Point) → Between p → Continues (NamesAt p no_bounds) (names_set p.form greatest (free_room p.form (p.total - p.used)))
 names_free p b = name_from no_bounds (spot_of p) greatest (free_room p.form (p.total - p.used)) (caps_free p b.room) (good_free p.limits p.place p.fields.lines b.good)
 
-pub values_from : (p : Point) (name value : List ℕ) → IsSized p → Valued p name value
+values_from : (p : Point) (name value : List ℕ) → IsSized p → Valued p name value
     → Continues (ValuesAt p name p.limits) (values_set p.form (part_of p.limits) (Some (p.total - p.used)))
 values_from p name value z v =
     value_from p.limits (spot_of p) (part_of p.limits) (Some (p.total - p.used)) name (caps_of p z v.bounded v.room) v.good v.behind v.within

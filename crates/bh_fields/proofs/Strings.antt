@@ -9,6 +9,7 @@ use Rattle.bh_spec.specs.Messages.{Field, IsToken, IsPseudo, IsValue, IsRegularF
 use Rattle.bh_model.specs.declared.field.Place.{Place}
 use Rattle.bh_model.specs.declared.field.Place.TheVariants.{Header, Trailer}
 use Rattle.bh_model.specs.Rules.{IsControlName, IsNameBehind, AreKept, line_rules, AreLines}
+use Rattle.bh_model.proofs.Deciding.{none_of_control}
 use Rattle.bh_model.proofs.RuleLemmas.{AreKept-append, kept_back, line_rules-append, kept_from_lines, lines_from_kept}
 use Rattle.bh_fields.specs.Names.{MayBePseudo, NameKind, NameGood, NameTakes, flag_behind, ValueGood, ValueTakes}
 
@@ -64,10 +65,6 @@ colon_no_token b e t = false≢true (ap is_token (sym e) ∙ t)
 twice_lower : (b : ℕ) → b < 256 → to_ascii_lowercase (to_ascii_lowercase b) ≡ to_ascii_lowercase b
 twice_lower b h = test_eq _ _ (agree_below_at (λ x. nat_eq (to_ascii_lowercase (to_ascii_lowercase x)) (to_ascii_lowercase x)) (λ x. true) 256 b refl h)
 
-front : (P : ℕ → Type 0) (xs ys : List ℕ) → All P (xs ++ ys) → All P xs
-front P [] ys h = All-nil P
-front P (x ∷ xs) ys h = All-cons P x xs (All-head P x (xs ++ ys) h) (front P xs ys (All-tail P x (xs ++ ys) h))
-
 back : (P : ℕ → Type 0) (xs ys : List ℕ) → All P (xs ++ ys) → All P ys
 back P [] ys h = h
 back P (x ∷ xs) ys h = back P xs ys (All-tail P x (xs ++ ys) h)
@@ -116,13 +113,6 @@ pseudo_is rest t some none = record {
   path = λ e. none (inr (inr (inr (inl e))));
   status = λ e. none (inr (inr (inr (inr e))));
 }
-
-pseudo_no_control : (name : List ℕ) → IsPseudo name → IsControlName name → ⊥
-pseudo_no_control name p (inl e) = p.method e
-pseudo_no_control name p (inr (inl e)) = p.scheme e
-pseudo_no_control name p (inr (inr (inl e))) = p.authority e
-pseudo_no_control name p (inr (inr (inr (inl e)))) = p.path e
-pseudo_no_control name p (inr (inr (inr (inr e)))) = p.status e
 
 pub behind_token : (place : Place) (done : List Field) (name : List ℕ) → lower name ≡ name → IsToken name → IsNameBehind place done name
 behind_token Header done name l t = (l, inl t)
@@ -205,7 +195,7 @@ name_takes place done (x ∷ rest) tail missing byte flag small f long h = (
         colon_no_token x (f.0 y).2 (All-head (λ b. IsTrue (is_token b)) x (rest ++ (to_ascii_lowercase byte ∷ lower tail)) t.each)
     last (inr p) one y c =
         let none : tail ≡ [] = empty tail (omega arith) in
-        pseudo_no_control ((x ∷ rest) ++ to_ascii_lowercase byte ∷ [])
+        none_of_control ((x ∷ rest) ++ to_ascii_lowercase byte ∷ [])
         (subst (λ (z : List ℕ). IsPseudo ((x ∷ rest) ++ (to_ascii_lowercase byte ∷ lower z))) none p.1) c
 
 -- with a byte more

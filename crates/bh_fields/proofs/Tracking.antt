@@ -1,32 +1,32 @@
 -- Sections of a place have one form, and a reader that knows what may follow knows what a byte makes of it.
 use Rattle.std.proofs.Common.{◌≡◌, ℕ, List, [], ◌∷◌, ◌++◌, All, refl, sym, ap, ap₂, subst, ◌∙◌, append_assoc, append-nil}
+use Rattle.std.proofs.lemmas.List.{append_cancel_left}
 use Rattle.bh_spec.specs.declared.Form.{Form}
 use Rattle.bh_spec.specs.declared.Part.{Part}
 use Rattle.bh_spec.specs.Bounds.{Bounds}
 use Rattle.bh_spec.specs.Messages.{Field}
 use Rattle.bh_spec.specs.Texts.{Text, bytes_of}
-use Rattle.bh_spec.proofs.Meeting.{Meets, meets_next, meets_front, meets_one}
+use Rattle.bh_spec.proofs.Meeting.{Meets, meets_next, meets_front}
 use Rattle.bh_spec.proofs.Sections.{IsNamed, section_agrees}
 use Rattle.bh_spec.proofs.Whole.{headers_named, trailers_named}
-use Rattle.bh_spec.proofs.Reading.{bytes_of-append}
+use Rattle.bh_spec.proofs.Marks.{bytes_of-append}
 use Rattle.bh_model.specs.declared.field.Place.{Place}
 use Rattle.bh_model.specs.declared.field.Place.TheVariants.{Header, Trailer}
 use Rattle.bh_model.specs.Rules.{AreLines}
 use Rattle.bh_fields.specs.Sections.{SectionOf, IsSectionOf, SectionBegins, IsNextPart}
 use Rattle.bh_fields.specs.Tracks.{Tracked}
-use Rattle.bh_fields.proofs.Numbers.{cancel}
 
 pub lines_named : (place : Place) (fields : List Field) → AreLines place fields → All IsNamed fields
 lines_named Header fields h = headers_named fields h
 lines_named Trailer fields h = trailers_named fields h
 
-pub sections_meet : (K L : Bounds) (form : Form) (place : Place) (fs gs : List Field) (t u : Text) → SectionOf K form place fs t → SectionOf L form place gs u
+sections_meet : (K L : Bounds) (form : Form) (place : Place) (fs gs : List Field) (t u : Text) → SectionOf K form place fs t → SectionOf L form place gs u
     → Meets ⊥ (fs ≡ gs) t u
 sections_meet K L form place fs gs t u a b =
     section_agrees K L form fs gs (lines_named place fs a.1) (lines_named place gs b.1) t u a.0 b.0
 
 -- the part of the next byte, from one text that has it
-pub next_from : (L : Bounds) (form : Form) (place : Place) (fields : List Field) (before : Text) (part : Part) (byte : ℕ) (after : Text) (bytes : List ℕ)
+next_from : (L : Bounds) (form : Form) (place : Place) (fields : List Field) (before : Text) (part : Part) (byte : ℕ) (after : Text) (bytes : List ℕ)
     → SectionOf L form place fields (before ++ ((part, byte) ∷ after)) → bytes_of before ≡ bytes → IsNextPart L form place bytes part
 next_from L form place fields before part byte after bytes h e = record {
   fields = fields;
@@ -60,7 +60,7 @@ follows form place bytes R T L part next K fields u byte x h e =
     let f = T.forth K fields u (byte ∷ x) h on in
     let both : bytes_of T.text ++ bytes_of f.0 ≡ bytes_of T.text ++ (byte ∷ x) =
     sym (bytes_of-append T.text f.0) ∙ sym (ap bytes_of f.1) ∙ on ∙ ap (λ (z : List ℕ). z ++ (byte ∷ x)) (sym T.same) in
-    at f.0 f.1 f.2 (cancel (bytes_of T.text) (bytes_of f.0) (byte ∷ x) both)
+    at f.0 f.1 f.2 (append_cancel_left (bytes_of T.text) (bytes_of f.0) (byte ∷ x) both)
   where
     at : (t : Text) → u ≡ T.text ++ t → R K fields t → bytes_of t ≡ byte ∷ x → Follows R K fields T.text u part byte
     at [] g r b = absurd cc
@@ -143,11 +143,6 @@ section_alone K L form place fields bytes x a b =
     none : (x y : List ℕ) → x ++ y ≡ [] → x ≡ []
     none [] y e = refl
     none (c ∷ x) y e = absurd cc
-
-pub section_once : (K L : Bounds) (form : Form) (place : Place) (fs gs : List Field) (bytes : List ℕ) → IsSectionOf K form place fs bytes
-    → IsSectionOf L form place gs bytes → fs ≡ gs
-section_once K L form place fs gs bytes a b =
-    meets_one ⊥ (fs ≡ gs) a.text b.text (sections_meet K L form place fs gs a.text b.text a.spelled b.spelled) (a.same ∙ sym b.same)
 
 -- bytes with a next part are no section
 pub next_unfinished : (K L : Bounds) (form : Form) (place : Place) (fields : List Field) (bytes : List ℕ) (part : Part) → IsNextPart L form place bytes part

@@ -11,7 +11,8 @@ use Rattle.bh_model.specs.declared.messages.Start as begun
 use Rattle.bh_model.specs.Lines.{FieldsView}
 use Rattle.bh_model.specs.Rules.{Rule, IsControlName, method_rule, scheme_rule, authority_rule, path_rule, status_rule, name_rule, value_rule, ended_rule, IsKept, AreKept, IsWebPath, IsPath}
 use Rattle.bh_model.specs.Held.{message_of, IsMessage}
-use Rattle.bh_model.proofs.MessageLemmas.{AreBytes, rules_of, message_from_kept, kept_from_message}
+use Rattle.bh_spec.proofs.Prefixes.{AreBytes}
+use Rattle.bh_model.proofs.MessageLemmas.{rules_of, message_from_kept, kept_from_message}
 
 abbrev Decided : Type 0 → Type 0
 Decided P = P ⊎ ¬ P
@@ -89,7 +90,7 @@ control_name name =
     (either (name ≡ codes ":authority") _ (same_bytes name (codes ":authority"))
     (either (name ≡ codes ":path") (name ≡ codes ":status") (same_bytes name (codes ":path")) (same_bytes name (codes ":status")))))
 
-none_of_control : (name : List ℕ) → IsPseudo name → IsControlName name → ⊥
+pub none_of_control : (name : List ℕ) → IsPseudo name → IsControlName name → ⊥
 none_of_control name p (inl e) = p.method e
 none_of_control name p (inr (inl e)) = p.scheme e
 none_of_control name p (inr (inr (inl e))) = p.authority e

@@ -1,8 +1,9 @@
 -- A message is valid exactly where its values keep their rules.
-use Rattle.std.proofs.Common.{◌<◌, ◌++◌, ◌∷◌, [], ℕ, List, map}
+use Rattle.std.proofs.Common.{◌++◌, ◌∷◌, [], ℕ, List, map}
 use Rattle.std.specs.Prelude.{All}
 use Rattle.std.proofs.lemmas.List.Elements.{All-nil, All-cons, All-head, All-tail}
 use Rattle.bh_spec.specs.Messages.{Control, IsControl, IsInterim}
+use Rattle.bh_spec.proofs.Prefixes.{AreBytes}
 use Rattle.bh_model.specs.declared.field.Place.{Place}
 use Rattle.bh_model.specs.declared.field.Place.TheVariants.{Header, Trailer}
 use Rattle.bh_model.specs.declared.informational.Interim as held
@@ -13,9 +14,6 @@ use Rattle.bh_model.specs.Rules.{Rule, ended_rule, status_rule, AreKept, control
 use Rattle.bh_model.specs.Values.{control_of, interim_of, IsEnded, AreEnded}
 use Rattle.bh_model.specs.Held.{IsMessage}
 use Rattle.bh_model.proofs.RuleLemmas.{AreKept-append, kept_front, kept_back, lines_from_kept, kept_from_lines}
-
-abbrev pub AreBytes : List ℕ → Type 0
-AreBytes bytes = All (λ byte. byte < 256) bytes
 
 section_from_kept : (place : Place) (f : FieldsView) → AreKept (section_rules place f) → AreLines place f.lines × IsEnded f
 section_from_kept place f h = (

@@ -24,7 +24,6 @@ impl Model for Bytes {
 impl Bytes {
     /// A copy of the bytes.
     pub fn from_slice(alloc: Global, bytes: &[u8]) -> Result<Bytes, NoMemory>
-        requires { length bytes.now ≤ 2 ^ 40 }
         ensures { IfOk result (λ list. list ≡ bytes.now) }
     {
         let items = Vec::from_slice(alloc, bytes)?;

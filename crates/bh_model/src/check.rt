@@ -1,6 +1,6 @@
 //! Whether bytes keep a rule.
 ghost use Rattle.std.specs.Prelude.{◌≡◌, ◌≤◌, ◌<◌, ◌↔◌, All, IsTrue, length};
-ghost use Rattle.bh_spec.specs.Bytes.{is_letter, is_authority, is_path, is_blank, lower};
+ghost use Rattle.bh_spec.specs.Bytes.{is_authority, is_blank, lower};
 ghost use Rattle.bh_spec.specs.Messages.{IsToken, IsScheme, IsPseudo, IsValue};
 ghost use Rattle.bh_model.specs.Rules.{IsControlName};
 

@@ -15,6 +15,7 @@ use Rattle.bh_spec.specs.Sections.{IsLinesWithin, IsSection}
 use Rattle.bh_spec.specs.Tails.{IsBody}
 use Rattle.bh_spec.specs.Spelling.{IsRequest, Spells}
 use Rattle.bh_spec.specs.Cases.{defaults, get, field_a, field_b, TailLeftOut, PaddingCounted, UpperCaseName, FramingInFourBytes, TrailersLeftOut, InterimResponse, PseudoField, InputTooLong, IntegerVectors, IntegerBoundaries}
+use Rattle.bh_spec.proofs.Within.{no_lines, no_headers}
 
 -- ---- a message is valid
 
@@ -36,9 +37,6 @@ get_valid = record {
   path = All-from_recursion (λ byte. IsTrue (is_path byte)) (codes "/") (refl, tt);
   web = λ web. inl ([], refl);
 }
-
-pub no_headers : AreHeaders []
-no_headers = ([], [], refl, All-nil IsPseudoField, All-nil IsRegularField)
 
 a_valid : IsRegularField field_a
 a_valid = record {
@@ -96,16 +94,10 @@ request_under limit = record {
 pub request_spelled : IsRequest defaults (record { method = codes "GET"; scheme = codes "https"; authority = []; path = codes "/" }) request_text
 request_spelled = request_under (Some (2 ^ 24))
 
-no_lines_under : (limit : Option ℕ) → IsLinesWithin (with_input limit) [] []
-no_lines_under limit = record { lines = refl; total = omega arith; names = All-nil _; values = All-nil _ }
-
-no_lines : IsLinesWithin defaults [] []
-no_lines = no_lines_under (Some (2 ^ 24))
-
 empty_under : (limit : Option ℕ) → IsSection (with_input limit) Known [] (mark parts.SectionLength (0 ∷ []))
-empty_under limit = ([], no_lines_under limit, (_, [], one parts.SectionLength 0 (omega arith), refl, refl))
+empty_under limit = ([], no_lines (with_input limit), (_, [], one parts.SectionLength 0 (omega arith), refl, refl))
 
-pub empty_section : IsSection defaults Known [] (mark parts.SectionLength (0 ∷ []))
+empty_section : IsSection defaults Known [] (mark parts.SectionLength (0 ∷ []))
 empty_section = empty_under (Some (2 ^ 24))
 
 abbrev a_text : Text
@@ -364,7 +356,7 @@ post_spelled = record {
 }
 
 no_lines_ended : IsSection defaults Indeterminate [] (mark parts.NameLength (0 ∷ []))
-no_lines_ended = ([], _, no_lines, one parts.NameLength 0 (omega arith), refl)
+no_lines_ended = ([], _, no_lines defaults, one parts.NameLength 0 (omega arith), refl)
 
 abbrev chunk_text : Text
 chunk_text = mark parts.ChunkLength (3 ∷ []) ++ mark parts.Content (codes "abc")

@@ -1,5 +1,5 @@
 -- What is spelled within limits fits them.
-use Rattle.std.proofs.Common.{◌≡◌, ◌≤◌, arith, ℕ, List, [], ◌∷◌, length, All, Option, Some, None, sym, ap, subst}
+use Rattle.std.proofs.Common.{◌≡◌, ◌≤◌, arith, ℕ, List, [], ◌∷◌, length, All, sym, ap, subst}
 use Rattle.std.proofs.lemmas.List.{length-append, length-map}
 use Rattle.std.proofs.lemmas.List.Elements.{All-nil, All-cons}
 use Rattle.bh_spec.specs.declared.Part.{Part}
@@ -9,31 +9,26 @@ use Rattle.bh_spec.specs.declared.Form.TheVariants.{Known, Indeterminate}
 use Rattle.bh_spec.specs.declared.Omitted.{Omitted}
 use Rattle.bh_spec.specs.declared.Omitted.TheVariants.{Nothing, Trailers, Both}
 use Rattle.bh_spec.specs.Integers.{vi, int, least_width}
-use Rattle.bh_spec.specs.Bounds.{Bounds, IsWithin}
+use Rattle.bh_spec.specs.Bounds.{Bounds}
 use Rattle.bh_spec.specs.Bytes.{lower}
 use Rattle.bh_spec.specs.Messages.{Field, Interim, Start, request, response, Message}
-use Rattle.bh_spec.specs.Texts.{Text, mark, IsNumber, AreEach, IsString}
+use Rattle.bh_spec.specs.Texts.{Text, IsNumber, AreEach, IsString}
 use Rattle.bh_spec.specs.Sections.{IsLine, IsLinesWithin, IsSection}
 use Rattle.bh_spec.specs.Tails.{IsTail}
 use Rattle.bh_spec.specs.Spelling.{IsInterimText, IsStartText}
 use Rattle.bh_spec.specs.Canonical.{string, line, lines, FieldsFit, StartFits}
 use Rattle.bh_spec.specs.Laws.{FitsWhereSpelled}
 use Rattle.bh_spec.proofs.Widths.{least_is_least, length-vi}
-
-within_less : (o : Option ℕ) (m n : ℕ) → m ≤ n → IsWithin o n → IsWithin o m
-within_less None m n h p = tt
-within_less (Some most) m n h p = omega arith
-
-length_mark : (part : Part) (x : List ℕ) → length (mark part x) ≡ length x
-length_mark part x = length-map x (λ (b : ℕ). let z : Part × ℕ = (part, b) in z)
+use Rattle.bh_spec.proofs.Marks.{length-mark}
+use Rattle.bh_spec.proofs.Within.{zero_within, within_less}
 
 number_least : (part : Part) (n : ℕ) (t : Text) → IsNumber part n t → length (int n) ≤ length t
 number_least part n t h =
-    omega (arith, ap length h.spelled, length_mark part (vi n h.width), length-vi n h.width, length-vi n (least_width n), least_is_least h.width n h.fits)
+    omega (arith, ap length h.spelled, length-mark part (vi n h.width), length-vi n h.width, length-vi n (least_width n), least_is_least h.width n h.fits)
 
 string_least : (long part : Part) (x : List ℕ) (t : Text) → IsString long part x t → length (string x) ≤ length t
 string_least long part x t h =
-    omega (arith, ap length h.4, length-append h.0 h.1, number_least long (length x) h.0 h.2, ap length h.3, length_mark part x, length-append (int (length x)) x)
+    omega (arith, ap length h.4, length-append h.0 h.1, number_least long (length x) h.0 h.2, ap length h.3, length-mark part x, length-append (int (length x)) x)
 
 same_long : (x y : List ℕ) → lower x ≡ y → length (string x) ≡ length (string y)
 same_long x y e =
@@ -75,10 +70,6 @@ start_fits L form (response is s) t h = (h.0, interims_fit L form is h.1.0 h.1.2
 
 empty_fits : (L : Bounds) (fs : List Field) → fs ≡ [] → FieldsFit L fs
 empty_fits L fs e = subst (FieldsFit L) (sym e) record { names = All-nil _; values = All-nil _; total = zero_within L.section }
-  where
-    zero_within : (o : Option ℕ) → IsWithin o 0
-    zero_within None = tt
-    zero_within (Some most) = omega arith
 
 trailers_fit : (L : Bounds) (form : Form) (m : Message) (o : Omitted) (z : ℕ) (t : Text) → IsTail L form m.content m.trailers o z t → FieldsFit L m.trailers
 trailers_fit L form m Nothing z t h = section_fits L form m.trailers h.3.0 h.3.2

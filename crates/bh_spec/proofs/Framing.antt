@@ -1,9 +1,10 @@
 -- The first number of a message.
-use Rattle.std.proofs.Common.{◌≡◌, ◌<◌, ◌≤◌, arith, ℕ, zero, suc, false, List, [], ◌∷◌, ◌++◌, length, Option, Some, None, refl, sym, ap, subst, ◌∙◌, inl, inr}
+use Rattle.std.proofs.Common.{◌≡◌, ◌<◌, ◌≤◌, arith, ℕ, zero, suc, false, List, [], ◌∷◌, ◌++◌, length, None, refl, sym, ap, ap₂, subst, ◌∙◌, append_assoc, inl, inr}
 use Rattle.std.proofs.lemmas.List.Elements.{All-nil, All-cons}
 use Rattle.bh_spec.specs.declared.Width.{Width}
 use Rattle.bh_spec.specs.declared.Width.TheVariants.{One, Two, Four, Eight}
 use Rattle.bh_spec.specs.declared.Omitted.{Omitted}
+use Rattle.bh_spec.specs.declared.Part.{Part}
 use Rattle.bh_spec.specs.declared.Part.TheVariants as parts
 use Rattle.bh_spec.specs.declared.Form.{Form}
 use Rattle.bh_spec.specs.declared.Form.TheVariants.{Known, Indeterminate}
@@ -11,7 +12,7 @@ use Rattle.bh_spec.specs.declared.Kind.{Kind}
 use Rattle.bh_spec.specs.declared.Kind.TheVariants.{Request, Response}
 use Rattle.bh_spec.specs.declared.Omitted.TheVariants.{Nothing, Both}
 use Rattle.bh_spec.specs.declared.Allowed.{Allowed}
-use Rattle.bh_spec.specs.Integers.{vi, byte_count, IsAllowed, SomeBegins}
+use Rattle.bh_spec.specs.Integers.{vi, byte_count, IsAllowed, Begins, SomeBegins}
 use Rattle.bh_spec.specs.Intervals.{width_of, IsAlive}
 use Rattle.bh_spec.specs.Bounds.{Bounds, IsWithin, no_bounds}
 use Rattle.bh_spec.specs.Messages.{Message, IsInterim, IsRegularField, IsValid, kind_of}
@@ -23,18 +24,43 @@ use Rattle.bh_spec.specs.Viable.{IsViable, NextPart}
 use Rattle.bh_spec.specs.Canonical.{FieldsFit, Fits, integers}
 use Rattle.bh_spec.specs.Alive.{FramingAlive}
 use Rattle.bh_spec.specs.Cases.{get, ok, defaults, FramingTooGreat}
-use Rattle.bh_spec.proofs.Prefixes.{alive_by_interval}
-use Rattle.bh_spec.proofs.Cases.{valid, no_headers, get_text, get_spelled}
+use Rattle.bh_spec.proofs.Widths.{length-vi}
+use Rattle.bh_spec.proofs.Marks.{marked_bytes}
+use Rattle.bh_spec.proofs.Within.{zero_within, within_less, no_headers}
+use Rattle.bh_spec.proofs.Prefixes.{front_width, alive_by_interval}
+use Rattle.bh_spec.proofs.Cases.{valid, get_text, get_spelled}
 use Rattle.bh_spec.proofs.Written.{has_after}
-use Rattle.bh_spec.proofs.Viable.{number_front, number_back}
 
-within_less : (o : Option ℕ) (m n : ℕ) → m ≤ n → IsWithin o n → IsWithin o m
-within_less None m n h p = tt
-within_less (Some most) m n h p = omega arith
+-- ---- a number at the front of a text
 
-zero_within : (o : Option ℕ) → IsWithin o 0
-zero_within None = tt
-zero_within (Some most) = omega arith
+-- two splits of one list: one front continues the other
+split : (x y a b : List ℕ) → x ++ y ≡ a ++ b → length a ≤ length x → (m : List ℕ) × (x ≡ a ++ m) × (b ≡ m ++ y)
+split x y [] b e h = (x, refl, sym e)
+split [] y (c ∷ a) b e h = absurd (omega arith)
+split (d ∷ x) y (c ∷ a) b e h =
+    let head : d ≡ c = cc in
+    let tail : x ++ y ≡ a ++ b = cc in
+    let m = split x y a b tail (omega arith) in
+    (m.0, ap₂ (λ (p : ℕ) (q : List ℕ). p ∷ q) head m.1, m.2)
+
+-- What a text that begins with a number shows, as long as the bytes lie within the number.
+number_front : (part : Part) (n : ℕ) (x y : Text) (byte : ℕ) (rest after : List ℕ) (number : IsNumber part n x)
+    → length rest < byte_count (width_of byte) → bytes_of (x ++ y) ≡ (byte ∷ rest) ++ after → Begins (byte ∷ rest) n number.width
+number_front part n x y byte rest after number within begins =
+    let w = number.width in
+    let bytes : vi n w ++ bytes_of y ≡ (byte ∷ rest) ++ after =
+    sym (marked_bytes part (vi n w) y) ∙ ap (λ (v : Text). bytes_of (v ++ y)) (sym number.spelled) ∙ begins in
+    let same : width_of byte ≡ w = front_width w n byte (rest ++ after) (bytes_of y) number.fits bytes in
+    let front = split (vi n w) (bytes_of y) (byte ∷ rest) after bytes (omega (arith, length-vi n w, ap byte_count same)) in
+    (number.fits, (front.0, front.1))
+
+number_back : (part : Part) (n : ℕ) (w : Width) (y : Text) (bytes : List ℕ) (h : Begins bytes n w)
+    → bytes_of (mark part (vi n w) ++ y) ≡ bytes ++ (h.1.0 ++ bytes_of y)
+number_back part n w y bytes h =
+    marked_bytes part (vi n w) y ∙ ap (λ (x : List ℕ). x ++ bytes_of y) h.1.1
+    ∙ append_assoc bytes h.1.0 (bytes_of y)
+
+-- ---- some message of each kind and form
 
 no_fields : (L : Bounds) → FieldsFit L []
 no_fields L = record { names = All-nil _; values = All-nil _; total = zero_within L.section }
@@ -57,11 +83,6 @@ ok_fits L = record { start = (zero_within L.interims, All-nil _); fields = no_fi
 ok_valid : IsValid ok
 ok_valid = record { start = record { each = All-nil IsInterim; low = omega arith; high = omega arith }; fields = no_headers; content = All-nil _; trailers = All-nil IsRegularField }
 
--- a message of the kind
-abbrev some_message : Kind → Message
-some_message Request = get []
-some_message Response = ok
-
 abbrev After : Bounds → Form → Message → Text → Type 0
 After L form m t = (IsStartText L form m.start then IsSection L form m.fields then IsTail L form m.content m.trailers Nothing 0) t
 
@@ -79,6 +100,8 @@ some L Request form h =
 some L Response form h =
     let t = has_after L form ok ok_valid (record { fits = ok_fits integers; content = omega arith }) (ok_fits L) in
     record { message = ok; is_kind = refl; valid = ok_valid; text = t.0; after = t.1 }
+
+-- ---- the framing number
 
 record FramingOf (n : ℕ) : Type 0 where
   kind : Kind

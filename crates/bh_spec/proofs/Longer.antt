@@ -1,6 +1,6 @@
 -- Every text can go on.
-use Rattle.std.proofs.Common.{◌≡◌, ◌+◌, arith, ℕ, List, [], ◌∷◌, ◌++◌, replicate, Option, Some, None, refl, sym, ap, ap₂, subst, ◌∙◌, append_assoc, append-nil}
-use Rattle.std.proofs.lemmas.List.{map-append, replicate_more}
+use Rattle.std.proofs.Common.{◌≡◌, ◌+◌, arith, ℕ, List, [], ◌∷◌, ◌++◌, replicate, refl, sym, ap, subst, ◌∙◌, append_assoc, append-nil}
+use Rattle.std.proofs.lemmas.List.{replicate_more}
 use Rattle.std.proofs.lemmas.List.Elements.{All-nil}
 use Rattle.bh_spec.specs.declared.Part.{Part}
 use Rattle.bh_spec.specs.declared.Part.TheVariants as parts
@@ -9,27 +9,22 @@ use Rattle.bh_spec.specs.declared.Form.TheVariants.{Known, Indeterminate}
 use Rattle.bh_spec.specs.declared.Omitted.{Omitted}
 use Rattle.bh_spec.specs.declared.Omitted.TheVariants.{Nothing, Trailers, Both}
 use Rattle.bh_spec.specs.declared.Width.TheVariants.{One}
-use Rattle.bh_spec.specs.Bounds.{Bounds, IsWithin}
+use Rattle.bh_spec.specs.Bounds.{Bounds}
 use Rattle.bh_spec.specs.Messages.{Field, Message, kind_of}
 use Rattle.bh_spec.specs.Texts.{Text, mark, bytes_of, IsNumber, IsRun, ◌then◌}
-use Rattle.bh_spec.specs.Sections.{IsLinesWithin, IsSection}
+use Rattle.bh_spec.specs.Sections.{IsSection}
 use Rattle.bh_spec.specs.Tails.{IsBody, IsTail}
 use Rattle.bh_spec.specs.Spelling.{IsStartText, framing, Spells}
 use Rattle.bh_spec.specs.Viable.{NextPart}
 use Rattle.bh_spec.specs.Laws.{SomeNext}
+use Rattle.bh_spec.proofs.Marks.{mark-append, cut}
+use Rattle.bh_spec.proofs.Within.{no_lines}
 
 then_longer : (R S S' : Text → Type 0) (t : Text) (h : (R then S) t) (e : Text) → S' (h.1 ++ e) → (R then S') (t ++ e)
 then_longer R S S' t h e s = (h.0, h.1 ++ e, h.2, s, ap (λ (x : Text). x ++ e) h.4 ∙ append_assoc h.0 h.1 e)
 
 zero_number : (part : Part) → IsNumber part 0 ((part, 0) ∷ [])
 zero_number part = record { width = One; fits = omega arith; spelled = refl }
-
-zero_within : (o : Option ℕ) → IsWithin o 0
-zero_within None = tt
-zero_within (Some most) = omega arith
-
-no_lines : (L : Bounds) → IsLinesWithin L [] []
-no_lines L = record { lines = refl; total = zero_within L.section; names = All-nil _; values = All-nil _ }
 
 abbrev first_of_section : Form → Part
 first_of_section Known = parts.SectionLength
@@ -48,7 +43,7 @@ no_body Known = (_, [], zero_number parts.ContentLength, refl, refl)
 no_body Indeterminate = ([], refl, All-nil _, ([], _, refl, zero_number parts.ChunkLength, refl))
 
 more_padding : (z : ℕ) → mark parts.Padding (replicate z 0) ++ ((parts.Padding, 0) ∷ []) ≡ mark parts.Padding (replicate (z + 1) 0)
-more_padding z = sym (map-append (λ (b : ℕ). let y : Part × ℕ = (parts.Padding, b) in y) (replicate z 0) (0 ∷ [])) ∙ ap (mark parts.Padding) (replicate_more z 0)
+more_padding z = sym (mark-append parts.Padding (replicate z 0) (0 ∷ [])) ∙ ap (mark parts.Padding) (replicate_more z 0)
 
 record LongerTail (L : Bounds) (form : Form) (c : List ℕ) (fs : List Field) (t : Text) : Type 0 where
   omitted : Omitted
@@ -113,33 +108,13 @@ longer L m o z t h =
       };
     }
 
--- a text is cut where its bytes are
-record Cut (t : Text) (x : List ℕ) (y : ℕ) (ys : List ℕ) : Type 0 where
-  before : Text
-  part : Part
-  after : Text
-  same : t ≡ before ++ ((part, y) ∷ after)
-  begins : bytes_of before ≡ x
-
-cut_at : (t : Text) (x : List ℕ) (y : ℕ) (ys : List ℕ) → bytes_of t ≡ x ++ (y ∷ ys) → Cut t x y ys
-cut_at [] [] y ys e = absurd cc
-cut_at [] (b ∷ x) y ys e = absurd cc
-cut_at (a ∷ t) [] y ys e =
-    let head : a.1 ≡ y = cc in
-    record { before = []; part = a.0; after = t; same = ap (λ (b : ℕ). let p : Part × ℕ = (a.0, b) in p ∷ t) head; begins = refl }
-cut_at (a ∷ t) (b ∷ x) y ys e =
-    let head : a.1 ≡ b = cc in
-    let tail : bytes_of t ≡ x ++ (y ∷ ys) = cc in
-    let c = cut_at t x y ys tail in
-    record { before = a ∷ c.before; part = c.part; after = c.after; same = ap (λ (u : Text). a ∷ u) c.same; begins = ap₂ (λ (p : ℕ) (q : List ℕ). p ∷ q) head c.begins }
-
 some_next_of : (L : Bounds) (bytes : List ℕ) (m : Message) (o : Omitted) (z : ℕ) (t : Text) (after : List ℕ) → Spells L m o z t → bytes_of t ≡ bytes ++ after
     → (part : Part) × NextPart L bytes part
 some_next_of L bytes m o z t [] h e =
     let l = longer L m o z t h in
     (l.part, record { message = m; omitted = l.omitted; padding = l.padding; before = t; byte = 0; after = []; spelled = l.spelled; begins = e ∙ append-nil bytes })
 some_next_of L bytes m o z t (y ∷ ys) h e =
-    let c = cut_at t bytes y ys e in
+    let c = cut t bytes y ys e in
     (c.part, record { message = m; omitted = o; padding = z; before = c.before; byte = y; after = c.after; spelled = subst (Spells L m o z) c.same h; begins = c.begins })
 
 pub some_next : SomeNext

@@ -1,7 +1,5 @@
 -- An input that ends where its header section begins.
 use Rattle.std.proofs.Common.{◌≡◌, ◌<◌, arith, ℕ, List, [], ◌∷◌, ◌++◌, length, refl, sym, ap, subst, ◌∙◌}
-use Rattle.std.proofs.lemmas.List.{map-append}
-use Rattle.bh_spec.specs.declared.Part.{Part}
 use Rattle.bh_spec.specs.declared.Part.TheVariants as parts
 use Rattle.bh_spec.specs.declared.Form.{Form}
 use Rattle.bh_spec.specs.declared.Form.TheVariants.{Known}
@@ -19,7 +17,9 @@ use Rattle.bh_spec.proofs.Meeting.{meets_front}
 use Rattle.bh_spec.proofs.Numbers.{number_meets}
 use Rattle.bh_spec.proofs.Sections.{section_nonempty, then_nonempty}
 use Rattle.bh_spec.proofs.Whole.{framing_is, start_agrees}
-use Rattle.bh_spec.proofs.Cases.{valid, no_headers, one, request_text, request_spelled, get_text, get_spelled}
+use Rattle.bh_spec.proofs.Marks.{bytes_of-append}
+use Rattle.bh_spec.proofs.Within.{no_headers}
+use Rattle.bh_spec.proofs.Cases.{valid, one, request_text, request_spelled, get_text, get_spelled}
 
 abbrev cut : List ℕ
 cut = 0x00 ∷ get_bytes
@@ -48,7 +48,7 @@ next = record {
 }
 
 split : (t x y : Text) → t ≡ x ++ y → bytes_of t ≡ bytes_of x ++ bytes_of y
-split t x y e = ap bytes_of e ∙ map-append (λ (b : Part × ℕ). b.1) x y
+split t x y e = ap bytes_of e ∙ bytes_of-append x y
 
 no_bytes : (t : Text) → [] ≡ bytes_of t → 0 < length t → ⊥
 no_bytes [] e h = omega arith

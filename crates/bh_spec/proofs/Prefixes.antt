@@ -68,6 +68,18 @@ big-same (x ∷ xs) (y ∷ ys) g h e f =
     let both = same_from_place x (big xs) y (big ys) (256 ^ length ys) below (big-below ys (All-tail (λ y. y < 256) y ys h)) same in
     ap₂ (λ (a : ℕ) (b : List ℕ). a ∷ b) both.0 (big-same xs ys (All-tail (λ y. y < 256) x xs g) (All-tail (λ y. y < 256) y ys h) n both.1)
 
+-- two lists that begin lists that are the same, and are as long
+pub lists_apart : (a b x y : List ℕ) → length a ≡ length b → a ++ x ≡ b ++ y → (a ≡ b) × (x ≡ y)
+lists_apart [] [] x y h e = (refl, e)
+lists_apart [] (c ∷ b) x y h e = absurd cc
+lists_apart (c ∷ a) [] x y h e = absurd cc
+lists_apart (c ∷ a) (d ∷ b) x y h e =
+    let n : length a ≡ length b = cc in
+    let rest : a ++ x ≡ b ++ y = cc in
+    let head : c ≡ d = cc in
+    let both = lists_apart a b x y n rest in
+    (ap₂ (λ (z : ℕ) (zs : List ℕ). z ∷ zs) head both.0, both.1)
+
 -- ---- the front of a number of k bytes
 
 front_from : (k n : ℕ) (xs more : List ℕ) → AreBytes xs → AreBytes more → n < 256 ^ k → bytes_high_first k n ≡ xs ++ more
@@ -104,6 +116,21 @@ head_width Four n b xs h e =
 head_width Eight n b xs h e =
     let head : (n + 3 * 2 ^ 62) / 256 ^ 7 % 256 ≡ b = cc in
     rw (le-ltb b 64 (omega arith), le-ltb b 128 (omega arith), le-ltb b 192 (omega arith)) refl
+
+-- a number has a first byte
+pub first_byte : (w : Width) (n : ℕ) → (b : ℕ) × (xs : List ℕ) × (vi n w ≡ b ∷ xs)
+first_byte One n = (_, _, refl)
+first_byte Two n = (_, _, refl)
+first_byte Four n = (_, _, refl)
+first_byte Eight n = (_, _, refl)
+
+-- which shows its width
+pub front_width : (w : Width) (n b : ℕ) (xs more : List ℕ) → n < limit_of w → vi n w ++ more ≡ b ∷ xs → width_of b ≡ w
+front_width w n b xs more h e =
+    let f = first_byte w n in
+    let whole : f.0 ∷ (f.1 ++ more) ≡ b ∷ xs = ap (λ (x : List ℕ). x ++ more) (sym f.2) ∙ e in
+    let same : f.0 ≡ b = cc in
+    subst (λ (x : ℕ). width_of x ≡ w) same (head_width w n f.0 f.1 h f.2)
 
 pub tagged : (b : ℕ) → b < 256 → b ≡ tag_of (width_of b) * 64 + b % 64
 tagged b h =

@@ -109,7 +109,7 @@ section_nonempty L Indeterminate fs t h = omega (arith, ap length h.4, length-ap
 abbrev IsChunk : List ℕ → Type 0
 IsChunk chunk = 0 < length chunk
 
-abbrev IsChunkText : List ℕ → Text → Type 0
+abbrev pub IsChunkText : List ℕ → Text → Type 0
 IsChunkText chunk t = IsString parts.ChunkLength parts.Content chunk t
 
 chunk_ends : (x : List ℕ) → IsChunk x → Agree ⊥ ⊥ (IsChunkText x) (IsNumber parts.ChunkLength 0)

@@ -1,20 +1,14 @@
 -- A section, line by line.
 use Rattle.std.proofs.Common.{◌≡◌, ◌<◌, ◌≤◌, ◌+◌, ◌-◌, arith, ℕ, List, [], ◌∷◌, ◌++◌, length, refl, sym, ap, ◌∙◌, append_assoc}
-use Rattle.std.proofs.lemmas.List.{length-append, map-append}
-use Rattle.bh_spec.specs.declared.Part.{Part}
+use Rattle.std.proofs.lemmas.List.{length-append}
 use Rattle.bh_spec.specs.Bounds.{Bounds}
 use Rattle.bh_spec.specs.Messages.{Field}
 use Rattle.bh_spec.specs.Texts.{Text, bytes_of, AreEach}
 use Rattle.bh_spec.specs.Sections.{IsLine}
 use Rattle.bh_spec.specs.Alive.{SectionRest, LineStep}
+use Rattle.bh_spec.proofs.Marks.{bytes_of-append}
 use Rattle.bh_spec.proofs.Meeting.{meets_front}
 use Rattle.bh_spec.proofs.Sections.{line_agrees, line_nonempty}
-
-abbrev byte_of : Part × ℕ → ℕ
-byte_of b = b.1
-
-bytes-append : (x y : Text) → bytes_of (x ++ y) ≡ bytes_of x ++ bytes_of y
-bytes-append x y = map-append byte_of x y
 
 nothing_left : (t : Text) (after : List ℕ) → 0 < length t → [] ≡ bytes_of t ++ after → ⊥
 nothing_left [] after h e = omega arith
@@ -28,7 +22,7 @@ forth L done left fields f t after line [] text lines fill spelled whole h =
     absurd (nothing_left t after (line_nonempty f t line) (sym (ap bytes_of lines) ∙ spelled))
 forth L done left fields f t after line (g ∷ gs) text lines fill spelled whole h =
     let one = meets_front (f ≡ g) t lines.0 after (bytes_of lines.1) (line_agrees f g t lines.0 line lines.2)
-    (sym spelled ∙ ap bytes_of lines.4 ∙ bytes-append lines.0 lines.1) in
+    (sym spelled ∙ ap bytes_of lines.4 ∙ bytes_of-append lines.0 lines.1) in
     let long : length text ≡ length lines.0 + length lines.1 = ap length lines.4 ∙ length-append lines.0 lines.1 in
     let same : length t ≡ length lines.0 = ap length one.1 in (
       omega arith,
@@ -53,7 +47,7 @@ back L done left fields f t after line room h = record {
   whole = h.whole ∙ append_assoc done (f ∷ []) h.more;
   lines = (t, h.text, line, h.lines, refl);
   fill = omega (arith, length-append t h.text, h.fill);
-  spelled = bytes-append t h.text ∙ ap (λ (x : List ℕ). bytes_of t ++ x) h.spelled;
+  spelled = bytes_of-append t h.text ∙ ap (λ (x : List ℕ). bytes_of t ++ x) h.spelled;
   valid = h.valid;
   names = h.names;
   values = h.values;

@@ -23,7 +23,7 @@ use Rattle.bh_spec.proofs.Sections.{IsNamed, section_agrees, section_nonempty, b
 
 -- ---- tails
 
-abbrev pub SameTail : List ℕ → List ℕ → List Field → List Field → Omitted → Omitted → ℕ → ℕ → Type 0
+abbrev SameTail : List ℕ → List ℕ → List Field → List Field → Omitted → Omitted → ℕ → ℕ → Type 0
 SameTail c d fs gs o p y z = (c ≡ d) × (fs ≡ gs) × (o ≡ p) × (y ≡ z)
 
 padding_meets : (y z : ℕ) → Meets (Unit {0}) (y ≡ z) (mark parts.Padding (replicate y 0)) (mark parts.Padding (replicate z 0))
@@ -58,7 +58,7 @@ rest_agrees K L form fs gs y z p q =
     (λ e t u r s. subst₂ (λ (v w : Text). Meets (Unit {0}) ((fs ≡ gs) × (y ≡ z)) v w) (sym r) (sym s)
     (meets_map (Unit {0}) (y ≡ z) ((fs ≡ gs) × (y ≡ z)) (mark parts.Padding (replicate y 0)) (mark parts.Padding (replicate z 0)) (λ f. (e, f)) (padding_meets y z)))
 
-pub tail_agrees : (K L : Bounds) (form : Form) (c d : List ℕ) (fs gs : List Field) (o p : Omitted) (y z : ℕ) → All IsNamed fs → All IsNamed gs
+tail_agrees : (K L : Bounds) (form : Form) (c d : List ℕ) (fs gs : List Field) (o p : Omitted) (y z : ℕ) → All IsNamed fs → All IsNamed gs
     → Agree (Unit {0}) (SameTail c d fs gs o p y z) (IsTail K form c fs o y) (IsTail L form d gs p z)
 tail_agrees K L form c d fs gs Nothing Nothing y z v w t u r s =
     agree_then (Unit {0}) (c ≡ d) (SameTail c d fs gs Nothing Nothing y z) (IsBody form c) (Rest K form fs y) (IsBody form d) (Rest L form gs z)
@@ -110,7 +110,7 @@ headers_named fs h =
 abbrev control : List ℕ → List ℕ → List ℕ → List ℕ → Control
 control a b c d = record { method = a; scheme = b; authority = c; path = d }
 
-control_is : (c d : Control) → c.method ≡ d.method → c.scheme ≡ d.scheme → c.authority ≡ d.authority → c.path ≡ d.path → c ≡ d
+pub control_is : (c d : Control) → c.method ≡ d.method → c.scheme ≡ d.scheme → c.authority ≡ d.authority → c.path ≡ d.path → c ≡ d
 control_is c d p q r s =
     ap (λ (x : List ℕ). control x c.scheme c.authority c.path) p ∙ ap (λ (x : List ℕ). control d.method x c.authority c.path) q
     ∙ ap (λ (x : List ℕ). control d.method d.scheme x c.path) r ∙ ap (λ (x : List ℕ). control d.method d.scheme d.authority x) s
@@ -197,12 +197,12 @@ framing_is Response Response Indeterminate Indeterminate e = (refl, refl)
 abbrev message : Start → List Field → List ℕ → List Field → Message
 message a b c d = record { start = a; fields = b; content = c; trailers = d }
 
-pub message_is : (m n : Message) → m.start ≡ n.start → m.fields ≡ n.fields → m.content ≡ n.content → m.trailers ≡ n.trailers → m ≡ n
+message_is : (m n : Message) → m.start ≡ n.start → m.fields ≡ n.fields → m.content ≡ n.content → m.trailers ≡ n.trailers → m ≡ n
 message_is m n p q r s =
     ap (λ (x : Start). message x m.fields m.content m.trailers) p ∙ ap (λ (x : List Field). message n.start x m.content m.trailers) q
     ∙ ap (λ (x : List ℕ). message n.start n.fields x m.trailers) r ∙ ap (λ (x : List Field). message n.start n.fields n.content x) s
 
-abbrev pub Same : Message → Message → Omitted → Omitted → ℕ → ℕ → Type 0
+abbrev Same : Message → Message → Omitted → Omitted → ℕ → ℕ → Type 0
 Same m n o p y z = (m ≡ n) × (o ≡ p) × (y ≡ z)
 
 abbrev After : Bounds → Form → Message → Omitted → ℕ → Text → Type 0
@@ -223,7 +223,7 @@ after_agrees K L form m n o p y z v w k =
     (λ g. (message_is m n e f g.0 g.1, g.2, g.3))
     (tail_agrees K L form m.content n.content m.trailers n.trailers o p y z (trailers_named m.trailers v.trailers) (trailers_named n.trailers w.trailers))))
 
-pub message_meets : (K L : Bounds) (m n : Message) (o p : Omitted) (y z : ℕ) (t u : Text) → Spells K m o y t → Spells L n p z u
+message_meets : (K L : Bounds) (m n : Message) (o p : Omitted) (y z : ℕ) (t u : Text) → Spells K m o y t → Spells L n p z u
     → Meets (Unit {0}) (Same m n o p y z) t u
 message_meets K L m n o p y z t u a b =
     agree_then (Unit {0}) (framing (kind_of m.start) a.form ≡ framing (kind_of n.start) b.form) (Same m n o p y z)

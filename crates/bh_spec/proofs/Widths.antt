@@ -1,4 +1,4 @@
--- Least widths.
+-- Widths of integers.
 use Rattle.std.proofs.Common.{◌≡◌, ◌<◌, ◌≤◌, arith, ℕ, length, refl, inl, inr}
 use Rattle.std.proofs.lemmas.Bool.{cases_lt, lt-ltb, le-ltb}
 use Rattle.bh_spec.specs.declared.Width.{Width}
@@ -64,3 +64,21 @@ length-vi n One = refl
 length-vi n Two = refl
 length-vi n Four = refl
 length-vi n Eight = refl
+
+pub count_1 : (w : Width) → 1 ≤ byte_count w
+count_1 One = omega arith
+count_1 Two = omega arith
+count_1 Four = omega arith
+count_1 Eight = omega arith
+
+pub count_8 : (w : Width) → byte_count w ≤ 8
+count_8 One = omega arith
+count_8 Two = omega arith
+count_8 Four = omega arith
+count_8 Eight = omega arith
+
+pub fits_greatest : (w : Width) (n : ℕ) → n < limit_of w → n ≤ greatest
+fits_greatest One n h = omega arith
+fits_greatest Two n h = omega arith
+fits_greatest Four n h = omega arith
+fits_greatest Eight n h = omega arith

@@ -2,7 +2,7 @@
 use Rattle.std.proofs.Common.{◌≡◌, ◌<◌, ◌≤◌, arith, ℕ, zero, suc, List, [], ◌∷◌, ◌++◌, length, take, drop, map, All, flat_map, refl, sym, ap, ap₂, subst, ◌∙◌, append-nil}
 use Rattle.std.specs.List.{concat}
 use Rattle.std.specs.Char.{to_ascii_lowercase}
-use Rattle.std.proofs.lemmas.List.{length-map, map-append, take-append-drop, length-take, length-drop}
+use Rattle.std.proofs.lemmas.List.{length-map, take-append-drop, length-take, length-drop}
 use Rattle.std.proofs.lemmas.List.Elements.{All-head, All-tail, All-nil, All-cons, All-weaker, All-append, All-same}
 use Rattle.bh_spec.specs.declared.Part.{Part}
 use Rattle.bh_spec.specs.declared.Part.TheVariants as parts
@@ -22,30 +22,28 @@ use Rattle.bh_spec.specs.Canonical.{string, line, lines, section, cut, cut_withi
 use Rattle.bh_spec.specs.Laws.{CanonIsSpelled, KnownIsSpelled}
 use Rattle.bh_spec.specs.declared.Kind.{Kind}
 use Rattle.bh_spec.specs.declared.Kind.TheVariants.{Request, Response}
+use Rattle.bh_spec.proofs.Sections.{IsChunkText}
 use Rattle.bh_spec.proofs.Widths.{least_fits}
+use Rattle.bh_spec.proofs.Marks.{bytes_of-append, unmark}
 
 -- some text of the grammar has these bytes
 abbrev pub Has : (Text → Type 0) → List ℕ → Type 0
 Has R bytes = (t : Text) × R t × (bytes_of t ≡ bytes)
 
-pub has_then : (R S : Text → Type 0) (x y : List ℕ) → Has R x → Has S y → Has (R then S) (x ++ y)
+has_then : (R S : Text → Type 0) (x y : List ℕ) → Has R x → Has S y → Has (R then S) (x ++ y)
 has_then R S x y h k =
-    (h.0 ++ k.0, (h.0, k.0, h.1, k.1, refl), map-append (λ (b : Part × ℕ). b.1) h.0 k.0 ∙ ap₂ (λ (v w : List ℕ). v ++ w) h.2 k.2)
+    (h.0 ++ k.0, (h.0, k.0, h.1, k.1, refl), bytes_of-append h.0 k.0 ∙ ap₂ (λ (v w : List ℕ). v ++ w) h.2 k.2)
 
-pub unmark : (part : Part) (x : List ℕ) → bytes_of (mark part x) ≡ x
-unmark part [] = refl
-unmark part (b ∷ x) = ap (λ (y : List ℕ). b ∷ y) (unmark part x)
-
-pub has_run : (part : Part) (x : List ℕ) → Has (IsRun part x) x
+has_run : (part : Part) (x : List ℕ) → Has (IsRun part x) x
 has_run part x = (mark part x, refl, unmark part x)
 
-pub has_int : (part : Part) (n : ℕ) → n ≤ greatest → Has (IsNumber part n) (int n)
+has_int : (part : Part) (n : ℕ) → n ≤ greatest → Has (IsNumber part n) (int n)
 has_int part n h = (mark part (int n), record { width = least_width n; fits = least_fits n h; spelled = refl }, unmark part (int n))
 
-pub has_string : (long part : Part) (x : List ℕ) → length x ≤ greatest → Has (IsString long part x) (string x)
+has_string : (long part : Part) (x : List ℕ) → length x ≤ greatest → Has (IsString long part x) (string x)
 has_string long part x h = has_then (IsNumber long (length x)) (IsRun part x) (int (length x)) x (has_int long (length x) h) (has_run part x)
 
-pub has_each : {A : Type 0} (P : A → Type 0) (R : A → Text → Type 0) (f : A → List ℕ) → ((a : A) → P a → Has (R a) (f a)) → (xs : List A) → All P xs → Has (AreEach R xs) (flat_map f xs)
+has_each : {A : Type 0} (P : A → Type 0) (R : A → Text → Type 0) (f : A → List ℕ) → ((a : A) → P a → Has (R a) (f a)) → (xs : List A) → All P xs → Has (AreEach R xs) (flat_map f xs)
 has_each P R f h [] p = ([], refl, refl)
 has_each P R f h (x ∷ xs) p = has_then (R x) (AreEach R xs) (f x) (flat_map f xs) (h x (All-head P x xs p)) (has_each P R f h xs (All-tail P x xs p))
 
@@ -55,10 +53,10 @@ has_length t x e = sym (length-map t (λ (b : Part × ℕ). b.1)) ∙ ap length 
 -- ---- sections
 
 -- a field in lower case whose lengths can be written
-pub record IsWritten (field : Field) : Type 0 where
-  pub lower_case : map to_ascii_lowercase field.name ≡ field.name
-  pub name : length field.name ≤ greatest
-  pub value : length field.value ≤ greatest
+record IsWritten (field : Field) : Type 0 where
+  lower_case : map to_ascii_lowercase field.name ≡ field.name
+  name : length field.name ≤ greatest
+  value : length field.value ≤ greatest
 
 has_line : (f : Field) → IsWritten f → Has (IsLine f) (line f)
 has_line f h =
@@ -66,7 +64,7 @@ has_line f h =
     (has_string parts.NameLength parts.Name f.name h.name) (has_string parts.ValueLength parts.Value f.value h.value) in
     (both.0, (f.name, h.lower_case, both.1), both.2)
 
-pub has_lines : (L : Bounds) (fs : List Field) → All IsWritten fs → FieldsFit L fs → Has (IsLinesWithin L fs) (lines fs)
+has_lines : (L : Bounds) (fs : List Field) → All IsWritten fs → FieldsFit L fs → Has (IsLinesWithin L fs) (lines fs)
 has_lines L fs w fits =
     let all = has_each IsWritten IsLine line has_line fs w in (
       all.0,
@@ -79,7 +77,7 @@ has_lines L fs w fits =
       all.2,
     )
 
-pub has_section : (L : Bounds) (form : Form) (fs : List Field) → All IsWritten fs → length (lines fs) ≤ greatest → FieldsFit L fs → Has (IsSection L form fs) (section form fs)
+has_section : (L : Bounds) (form : Form) (fs : List Field) → All IsWritten fs → length (lines fs) ≤ greatest → FieldsFit L fs → Has (IsSection L form fs) (section form fs)
 has_section L Known fs w long fits =
     let all = has_lines L fs w fits in
     let n : length all.0 ≡ length (lines fs) = has_length all.0 (lines fs) all.2 in
@@ -110,9 +108,6 @@ cut_whole (suc k) [] h = refl
 cut_whole (suc k) (b ∷ xs) h =
     ap (λ (y : List ℕ). take 8192 (b ∷ xs) ++ y) (cut_whole k (drop 8192 (b ∷ xs)) (omega (arith, length-drop 8192 (b ∷ xs)))) ∙ take-append-drop 8192 (b ∷ xs)
 
-abbrev IsChunkText : List ℕ → Text → Type 0
-IsChunkText chunk t = IsString parts.ChunkLength parts.Content chunk t
-
 has_body : (form : Form) (x : List ℕ) → length x ≤ greatest → Has (IsBody form x) (body form x)
 has_body Known x h = has_string parts.ContentLength parts.Content x h
 has_body Indeterminate x h =
@@ -123,15 +118,6 @@ has_body Indeterminate x h =
     (both.0, (cut 8192 x, cut_whole (length x) x (omega arith), All-weaker IsPiece (λ y. 0 < length y) (λ y p. p.0) (cut 8192 x) pieces, both.1), both.2)
 
 -- ---- starts and messages
-
-abbrev AreSmall : List Field → Type 0
-AreSmall fs = FieldsFit integers fs
-
-regular_written : (f : Field) → IsRegularField f × ((length f.name ≤ greatest) × (length f.value ≤ greatest)) → IsWritten f
-regular_written f h = record { lower_case = h.0.lower_case; name = h.1.0; value = h.1.1 }
-
-pseudo_written : (f : Field) → IsPseudoField f × ((length f.name ≤ greatest) × (length f.value ≤ greatest)) → IsWritten f
-pseudo_written f h = record { lower_case = h.0.lower_case; name = h.1.0; value = h.1.1 }
 
 abbrev IsLower : Field → Type 0
 IsLower f = lower f.name ≡ f.name
@@ -150,10 +136,10 @@ all_written fs p q k d h = record { lower_case = p k d h; name = q.names k d h; 
 abbrev Lines : Bounds → List Field → Type 0
 Lines L fs = All IsLower fs × (FieldsFit integers fs × FieldsFit L fs)
 
-pub has_written_section : (L : Bounds) (form : Form) (fs : List Field) → Lines L fs → Has (IsSection L form fs) (section form fs)
+has_written_section : (L : Bounds) (form : Form) (fs : List Field) → Lines L fs → Has (IsSection L form fs) (section form fs)
 has_written_section L form fs h = has_section L form fs (all_written fs h.0 h.1.0) h.1.0.total h.1.1
 
-pub has_request : (L : Bounds) (c : Control) → lower c.scheme ≡ c.scheme → ControlFits integers c → ControlFits L c
+has_request : (L : Bounds) (c : Control) → lower c.scheme ≡ c.scheme → ControlFits integers c → ControlFits L c
     → Has (IsRequest L c) (string c.method ++ (string c.scheme ++ (string c.authority ++ string c.path)))
 has_request L c low small fits =
     let a = has_string parts.MethodLength parts.Method c.method small.method in
@@ -224,7 +210,7 @@ has_after L form m v small fits =
     (start form m.start) (section form m.fields ++ (body form m.content ++ section form m.trailers)) b cd
 
 -- what is written is spelled, in both forms
-pub is_spelled : (L : Bounds) (form : Form) (m : Message) → IsValid m → IsWritable m → Fits L m → SpellsBytes L m Nothing 0 (spelling form m)
+is_spelled : (L : Bounds) (form : Form) (m : Message) → IsValid m → IsWritable m → Fits L m → SpellsBytes L m Nothing 0 (spelling form m)
 is_spelled L form m v small fits =
     let k = kind_of m.start in
     let a = has_int parts.Framing (framing k form) (small_framing k form) in

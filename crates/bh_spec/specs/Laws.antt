@@ -35,7 +35,7 @@ KnownIsSpelled = (L : Bounds) (m : Message) → IsValid m → IsWritable m → F
 abbrev pub FitsWhereSpelled : Type 0
 FitsWhereSpelled = (L : Bounds) (m : Message) (o : Omitted) (z : ℕ) (t : Text) → Spells L m o z t → Fits L m
 
--- What is viable within limits is viable without.
+-- What is spelled within limits is spelled without.
 abbrev pub WithoutLimits : Type 0
 WithoutLimits = (L : Bounds) (m : Message) (o : Omitted) (z : ℕ) (t : Text) → Spells L m o z t → Spells no_bounds m o z t
 

@@ -8,7 +8,6 @@ pub mod Texts
 pub mod Sections
 pub mod Tails
 pub mod Spelling
-pub mod Fronts
 pub mod Viable
 pub mod Answers
 pub mod Canonical

@@ -1,15 +1,15 @@
 //! The binary format in definitions, and its laws.
 //!
 //! The definitions stand in `specs/`: `Integers`, `Bounds`, `Bytes`, `Messages`, `Texts`, `Sections`, `Tails`, `Spelling`,
-//! `Viable`, `Answers`, `Canonical`, `Reports` and `Parts`, which docs/FORMAT.md says in words; `Fronts` and `Alive` say what
-//! readers find, `Laws` has the laws, and `Cases` the worked cases. The types here are those that the definitions speak of.
+//! `Viable`, `Answers`, `Canonical`, `Reports` and `Parts`, which docs/FORMAT.md says in words; `Alive` says which bytes may
+//! come next, `Laws` has the laws, and `Cases` the worked cases. The types here are those that the definitions speak of.
 //! Each function but `Part::number` is empty: its contract is a law about the definitions, or a worked case.
 #![tactic(auto)]
 
 ghost use Rattle.std.specs.Prelude.{◌≡◌};
 ghost use Rattle.bh_spec.specs.Parts.{number_of};
 ghost use Rattle.bh_spec.specs.Laws.{OneReading, OneNext, SomeNext, CanonIsSpelled, KnownIsSpelled, FitsWhereSpelled, WithoutLimits, CanonOnce};
-ghost use Rattle.bh_spec.specs.Alive.{AliveByInterval, FramingAlive, SectionLengthAlive, ValueLengthAlive, LineStep, NameAlive, PseudoAlive};
+ghost use Rattle.bh_spec.specs.Alive.{AliveByInterval, FramingAlive, LineStep};
 ghost use Rattle.bh_spec.specs.Cases.{TailLeftOut, PaddingCounted, UpperCaseName, FramingInFourBytes, TrailersLeftOut, InterimResponse, PseudoField, InputTooLong, FramingTooGreat, HeaderSectionMissing, IntegerVectors, IntegerBoundaries};
 
 /// The width of an integer: 1, 2, 4 or 8 bytes (RFC 9000, section 16).
@@ -63,7 +63,7 @@ pub struct Span {
 }
 
 /// What a number may leave of a room of so many bytes, in which it stands with the bytes that it counts: nothing where
-/// `zero` is set, or a number in the span. A room is at most 2^62 - 1.
+/// `zero` is set, or a number in the span.
 #[derive(Clone, Copy, Debug, PartialEq, Eq)]
 pub struct Rest {
     pub room: u64,
@@ -174,34 +174,15 @@ pub fn alive_by_interval()
     ensures { AliveByInterval }
 {}
 
-/// The first bytes of a message are viable exactly where they begin a framing number.
+/// Where the limit of a part is 5 or more, bytes that lie within a message's first number are viable exactly where they
+/// begin a framing number.
 pub fn framing_alive()
     ensures { FramingAlive }
 {}
 
-/// Some section begins with the first bytes of its length exactly where these begin 0 or a number from 3 to the limit.
-pub fn section_length_alive()
-    ensures { SectionLengthAlive }
-{}
-
-/// In a known-length section a value length leaves nothing, or room for a line.
-pub fn value_length_alive()
-    ensures { ValueLengthAlive }
-{}
-
-/// In a known-length section a line takes its bytes and adds its field.
+/// In a known-length section a line with a name takes its bytes and adds its field.
 pub fn line_step()
     ensures { LineStep }
-{}
-
-/// Which bytes begin a regular name.
-pub fn name_alive()
-    ensures { NameAlive }
-{}
-
-/// Which bytes begin a pseudo-field's name: the last one must not make one of the five.
-pub fn pseudo_alive()
-    ensures { PseudoAlive }
 {}
 
 /// Worked case: content and trailer section are left out.

@@ -17,25 +17,6 @@ use Rattle.bh_varint.specs.Begun.{bytes_stored, bytes_begun, IsStored, IsShort, 
 use Rattle.bh_varint.specs.Step.{IsUnfinished, IsWhole}
 use Rattle.bh_varint.proofs.Reading.{unfinished_nil, unfinished_part, begins_whole}
 
--- the first byte alone
-pub reads_first : (x : ℕ) → x < 256 → Reads (x ∷ []) (record { width = width_of x; count = 1; value = x % 64 })
-reads_first x h = record {
-  first = x;
-  rest = [];
-  parts = refl;
-  each = All-cons (λ y. y < 256) x [] h (All-nil _);
-  long = refl;
-  fits = some (width_of x);
-  shows = refl;
-  means = omega arith;
-}
-  where
-    some : (w : Width) → 1 ≤ byte_count w
-    some One = omega arith
-    some Two = omega arith
-    some Four = omega arith
-    some Eight = omega arith
-
 -- one byte more
 pub reads_more : (bytes : List ℕ) (b : Begun) (x : ℕ) → x < 256 → b.count < byte_count b.width → Reads bytes b
     → Reads (bytes ++ x ∷ []) (record { width = b.width; count = b.count + 1; value = b.value * 256 + x })
@@ -72,7 +53,7 @@ reads_begun bytes b r =
     ∙ sym r.parts
 
 -- the stored value is one that so many bytes can have
-pub reads_stored : (bytes : List ℕ) (b : Begun) → Reads bytes b → IsStored b
+reads_stored : (bytes : List ℕ) (b : Begun) → Reads bytes b → IsStored b
 reads_stored bytes b r =
     let rest = r.rest in
     let k-is : b.count ≡ suc (length rest) = count_is bytes b r in
@@ -147,7 +128,7 @@ pub stored_reads : (b : Begun) → IsStored b → Reads (bytes_stored b) b
 stored_reads b h = stored_at b.width b.count b.value h.some h.fits h.small
 
 -- all the bytes of the width
-pub reads_whole : (bytes : List ℕ) (b : Begun) → Reads bytes b → b.count ≡ byte_count b.width → (b.value < limit_of b.width) × (vi b.value b.width ≡ bytes)
+reads_whole : (bytes : List ℕ) (b : Begun) → Reads bytes b → b.count ≡ byte_count b.width → (b.value < limit_of b.width) × (vi b.value b.width ≡ bytes)
 reads_whole bytes b r e =
     let stored = reads_stored bytes b r in
     let top : 64 * 256 ^ (b.count - 1) ≡ limit_of b.width = ap (λ (k : ℕ). 64 * 256 ^ (k - 1)) e ∙ sym (limit_is b.width) in (

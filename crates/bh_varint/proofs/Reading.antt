@@ -2,41 +2,13 @@
 use Rattle.std.proofs.Common.{◌≡◌, ◌<◌, ◌⊎◌, inl, inr, arith, ℕ, List, [], ◌∷◌, ◌++◌, length, refl, sym, ap, ap₂, subst, ◌∙◌, append_assoc, append-nil}
 use Rattle.std.proofs.lemmas.List.{length-append}
 use Rattle.bh_spec.specs.declared.Width.{Width}
-use Rattle.bh_spec.specs.declared.Width.TheVariants.{One, Two, Four, Eight}
 use Rattle.bh_spec.specs.declared.Allowed.{Allowed}
 use Rattle.bh_spec.specs.Integers.{vi, limit_of, byte_count, IsAllowed, SomeBegins}
 use Rattle.bh_spec.specs.Intervals.{width_of}
 use Rattle.bh_spec.proofs.Numbers.{vi_form}
 use Rattle.bh_spec.proofs.Widths.{length-vi}
-use Rattle.bh_spec.proofs.Prefixes.{head_width}
+use Rattle.bh_spec.proofs.Prefixes.{head_width, first_byte, front_width, lists_apart}
 use Rattle.bh_varint.specs.Step.{IsWhole, IsUnfinished}
-
--- a number has a first byte
-first_byte : (w : Width) (n : ℕ) → (b : ℕ) × (xs : List ℕ) × (vi n w ≡ b ∷ xs)
-first_byte One n = (_, _, refl)
-first_byte Two n = (_, _, refl)
-first_byte Four n = (_, _, refl)
-first_byte Eight n = (_, _, refl)
-
--- which shows its width
-pub front_width : (w : Width) (n b : ℕ) (xs more : List ℕ) → n < limit_of w → vi n w ++ more ≡ b ∷ xs → width_of b ≡ w
-front_width w n b xs more h e =
-    let f = first_byte w n in
-    let whole : f.0 ∷ (f.1 ++ more) ≡ b ∷ xs = ap (λ (x : List ℕ). x ++ more) (sym f.2) ∙ e in
-    let same : f.0 ≡ b = cc in
-    subst (λ (x : ℕ). width_of x ≡ w) same (head_width w n f.0 f.1 h f.2)
-
--- two lists that begin lists that are the same, and are as long
-fronts : (a b x y : List ℕ) → length a ≡ length b → a ++ x ≡ b ++ y → (a ≡ b) × (x ≡ y)
-fronts [] [] x y h e = (refl, e)
-fronts [] (c ∷ b) x y h e = absurd cc
-fronts (c ∷ a) [] x y h e = absurd cc
-fronts (c ∷ a) (d ∷ b) x y h e =
-    let n : length a ≡ length b = cc in
-    let rest : a ++ x ≡ b ++ y = cc in
-    let head : c ≡ d = cc in
-    let both = fronts a b x y n rest in
-    (ap₂ (λ (z : ℕ) (zs : List ℕ). z ∷ zs) head both.0, both.1)
 
 -- one number at most stands at the front of bytes
 pub number_once : (m n : ℕ) (v w : Width) (x y : List ℕ) → m < limit_of v → n < limit_of w → vi m v ++ x ≡ vi n w ++ y → (m ≡ n) × (v ≡ w) × (x ≡ y)
@@ -44,7 +16,7 @@ number_once m n v w x y g h e =
     let f = first_byte v m in
     let whole : vi n w ++ y ≡ f.0 ∷ (f.1 ++ x) = sym e ∙ ap (λ (z : List ℕ). z ++ x) f.2 in
     let width : v ≡ w = sym (head_width v m f.0 f.1 g f.2) ∙ front_width w n f.0 (f.1 ++ x) y h whole in
-    let both = fronts (vi m v) (vi n w) x y (length-vi m v ∙ ap byte_count width ∙ sym (length-vi n w)) e in
+    let both = lists_apart (vi m v) (vi n w) x y (length-vi m v ∙ ap byte_count width ∙ sym (length-vi n w)) e in
     let value : m ≡ n = subst (λ (u : Width). n < limit_of u → vi m v ≡ vi n u → m ≡ n) width (λ a b. vi_form v m n g a b) h both.0 in
     (value, width, both.1)
 
@@ -97,12 +69,6 @@ shorter (b ∷ x) more (c ∷ now) after e =
     ]
 
 -- ---- for a reader that passes on each byte
-
--- The whole number of a step is the one that stands at the front.
-pub front_whole : (set : Allowed) (bytes after more : List ℕ) (m n : ℕ) (v w : Width) → IsWhole set bytes m v → n < limit_of w → vi n w ++ more ≡ bytes ++ after
-    → (n ≡ m) × (w ≡ v) × (more ≡ after)
-front_whole set bytes after more m n v w whole h e =
-    number_once n m w v more after h whole.fits (e ∙ ap (λ (x : List ℕ). x ++ after) (sym whole.spelled))
 
 -- Behind bytes that are no whole number, a number that stands at the front goes on.
 pub front_unfinished : (now after more : List ℕ) (n : ℕ) (w : Width) → IsUnfinished now → n < limit_of w → vi n w ++ more ≡ now ++ after

@@ -1,5 +1,5 @@
 use Rattle.std.proofs.Common.{◌≡◌, ℕ, length, take, replicate, arith, sym, ap, ◌∙◌}
-use Rattle.bh_control.proofs.Pieces.{take_all}
+use Rattle.std.proofs.lemmas.List.{take_all}
 use Rattle.bh_decode.proofs.Paddings.{padding_whole, padding_dead}
 use Rattle.bh_decode.proofs.padding.read_padding.Goals as goal
 
@@ -10,4 +10,4 @@ pub returns-clause-whole : goal.returns-clause-whole
 returns-clause-whole c =
     let all : c.loop-i.i ≡ length c.args.bytes.now = omega (arith, c.loop-i.auto.i-end, c.loop-i-test.false) in
     padding_whole c.args.bytes.now (length c.args.bytes.now)
-    (sym (take_all c.args.bytes.now) ∙ ap (λ (n : ℕ). take n c.args.bytes.now) (sym all) ∙ c.loop-i.invariant ∙ ap (λ (n : ℕ). replicate n 0) all)
+    (sym (take_all (length c.args.bytes.now) c.args.bytes.now (omega arith)) ∙ ap (λ (n : ℕ). take n c.args.bytes.now) (sym all) ∙ c.loop-i.invariant ∙ ap (λ (n : ℕ). replicate n 0) all)

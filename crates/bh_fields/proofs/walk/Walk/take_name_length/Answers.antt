@@ -7,7 +7,7 @@ use Rattle.bh_fields.specs.declared.walk.Judged.TheVariants as judged
 use Rattle.bh_fields.specs.declared.walk.Phase.{Phase}
 use Rattle.bh_fields.specs.Sets.{names_set, free_room}
 use Rattle.bh_fields.specs.Points.{Point, point_of, part_of, NamedState, Outcome}
-use Rattle.bh_fields.proofs.Numbers.{count_1}
+use Rattle.bh_spec.proofs.Widths.{count_1}
 use Rattle.bh_fields.proofs.Moves.{line_more, line_whole, line_limit, line_dead}
 use Rattle.bh_fields.proofs.Changes.{line_fits, with_number, moved, part_is}
 use Rattle.bh_fields.proofs.walk.Walk.take_name_length.Goals as goal

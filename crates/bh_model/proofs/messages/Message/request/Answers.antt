@@ -5,7 +5,8 @@ use Rattle.bh_model.specs.declared.messages.Start.TheVariants.{Request}
 use Rattle.bh_model.specs.Rules.{request_rules}
 use Rattle.bh_model.specs.Values.{control_of}
 use Rattle.bh_model.proofs.RuleLemmas.{broken_not_kept}
-use Rattle.bh_model.proofs.MessageLemmas.{AreBytes, message_from_kept, kept_from_message}
+use Rattle.bh_spec.proofs.Prefixes.{AreBytes}
+use Rattle.bh_model.proofs.MessageLemmas.{message_from_kept, kept_from_message}
 use Rattle.bh_model.proofs.messages.Message.request.Goals as goal
 
 pub invariant_of-result : goal.invariant_of-result

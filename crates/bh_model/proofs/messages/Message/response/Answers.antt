@@ -4,7 +4,8 @@ use Rattle.std.proofs.lemmas.Result.{err_from_is_err_and}
 use Rattle.bh_model.specs.declared.messages.Start.TheVariants.{Response}
 use Rattle.bh_model.specs.Rules.{response_rules}
 use Rattle.bh_model.proofs.RuleLemmas.{broken_not_kept}
-use Rattle.bh_model.proofs.MessageLemmas.{AreBytes, message_from_kept, kept_from_message}
+use Rattle.bh_spec.proofs.Prefixes.{AreBytes}
+use Rattle.bh_model.proofs.MessageLemmas.{message_from_kept, kept_from_message}
 use Rattle.bh_model.proofs.messages.Message.response.Goals as goal
 
 pub invariant_of-result : goal.invariant_of-result

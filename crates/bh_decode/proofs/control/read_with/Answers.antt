@@ -1,6 +1,6 @@
 use Rattle.std.proofs.Common.{ℕ, List, ◌++◌, take, refl, sym, ap, ◌∙◌}
 use Rattle.bh_decode.proofs.ControlTexts.{control_cut, control_whole}
-use Rattle.bh_decode.proofs.control.control_text.Goals as goal
+use Rattle.bh_decode.proofs.control.read_with.Goals as goal
 
 pub returns-in-Whole-clause-whole : goal.returns-in-Whole-clause-whole
 returns-in-Whole-clause-whole c =

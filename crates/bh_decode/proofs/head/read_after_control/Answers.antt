@@ -5,7 +5,7 @@ use Rattle.bh_control.specs.Pieces.{IsText}
 use Rattle.bh_decode.specs.Grammar.{IsRestText, RestOf}
 use Rattle.bh_decode.specs.Stops.{Stops, AtStop}
 use Rattle.bh_decode.proofs.Heads.{headers_stop, rest_fault, parts_whole}
-use Rattle.bh_decode.proofs.head.read_parts.Goals as goal
+use Rattle.bh_decode.proofs.head.read_after_control.Goals as goal
 
 pub returns-in_err-taken-clause-stops : goal.returns-in_err-taken-clause-stops
 returns-in_err-taken-clause-stops c =

@@ -10,7 +10,7 @@ use Rattle.bh_decode.specs.Grammar.{status_left}
 use Rattle.bh_decode.specs.Stops.{SomeOf, StopsThing}
 use Rattle.bh_decode.proofs.Fronts.{ends_then}
 use Rattle.bh_decode.proofs.Openings.{status_stop, interim_stop}
-use Rattle.bh_decode.proofs.opening.read_step.Goals as goal
+use Rattle.bh_decode.proofs.opening.read_part.Goals as goal
 
 pub returns-in_err-read-clause-stops : goal.returns-in_err-read-clause-stops
 returns-in_err-read-clause-stops c =

@@ -1,9 +1,8 @@
 -- Lines of any number of bytes from three on, and how long lines are.
-use Rattle.std.proofs.Common.{◌≡◌, ◌<◌, ◌≤◌, ◌+◌, ◌-◌, ◌*◌, ◌/◌, ◌%◌, ◌⊎◌, arith, ℕ, zero, suc, IsTrue, List, [], ◌∷◌, ◌++◌, length, All, Option, Some, None, codes, refl, sym, ap, subst, inl, inr}
+use Rattle.std.proofs.Common.{◌≡◌, ◌<◌, ◌≤◌, ◌+◌, ◌-◌, ◌*◌, ◌/◌, ◌%◌, ◌⊎◌, arith, ℕ, zero, suc, IsTrue, List, [], ◌∷◌, ◌++◌, length, All, codes, refl, sym, ap, subst, inl, inr}
 use Rattle.std.proofs.lemmas.List.{length-append, length-map}
 use Rattle.std.proofs.lemmas.List.Elements.{All-nil, All-cons, All-from_recursion}
 use Rattle.std.proofs.lemmas.Bool.{cases_lt}
-use Rattle.bh_spec.specs.declared.Part.{Part}
 use Rattle.bh_spec.specs.declared.Part.TheVariants as parts
 use Rattle.bh_spec.specs.declared.Width.TheVariants.{One}
 use Rattle.bh_spec.specs.Integers.{vi}
@@ -12,10 +11,10 @@ use Rattle.bh_spec.specs.Bytes.{is_token, is_value}
 use Rattle.bh_spec.specs.Messages.{Field, IsValue, IsRegularField}
 use Rattle.bh_spec.specs.Texts.{Text, mark, AreEach}
 use Rattle.bh_spec.specs.Sections.{IsLine}
+use Rattle.bh_spec.proofs.Marks.{length-mark}
+use Rattle.bh_spec.proofs.Within.{within_less}
 use Rattle.bh_spec.proofs.Sections.{number_nonempty, IsNamed}
 use Rattle.bh_spec.proofs.Cases.{a_string}
-
--- ---- lines of any number of bytes from 3 on
 
 abbrev three : List ℕ → Field
 three value = record { name = codes "a"; value = value }
@@ -42,15 +41,11 @@ pub record Made (L : Bounds) (n : ℕ) : Type 0 where
   pub values : All (λ field. IsWithin L.part (length field.value)) fields
   pub long : length text ≡ n
 
-pub within_less : (o : Option ℕ) (m n : ℕ) → m ≤ n → IsWithin o n → IsWithin o m
-within_less None m n h p = tt
-within_less (Some most) m n h p = omega arith
-
 line_text : (value : List ℕ) → length value < 64 → (t : Text) × IsLine (three value) t × (length t ≡ 3 + length value)
 line_text value h = (
   (mark parts.NameLength (1 ∷ []) ++ mark parts.Name (codes "a")) ++ (mark parts.ValueLength (vi (length value) One) ++ mark parts.Value value),
   (codes "a", refl, (_, _, a_string parts.NameLength parts.Name (codes "a") (omega arith), a_string parts.ValueLength parts.Value value h, refl)),
-  omega (arith, length-map value (λ (b : ℕ). let z : Part × ℕ = (parts.Value, b) in z)),
+  omega (arith, length-mark parts.Value value),
 )
 
 one_more : (L : Bounds) (n : ℕ) (value : List ℕ) → IsValue value → length value ≤ 2 → IsWithin L.part 2 → Made L n → Made L (3 + length value + n)
@@ -87,7 +82,7 @@ made L n within (inr h) =
     ]
 
 -- and lines have 3 bytes or more
-pub line_long : (f : Field) (t : Text) → IsNamed f → IsLine f t → 3 ≤ length t
+line_long : (f : Field) (t : Text) → IsNamed f → IsLine f t → 3 ≤ length t
 line_long f t named h =
     let name = h.2.2 in
     let value = h.2.3 in
@@ -102,7 +97,7 @@ line_long f t named h =
       length-append value.0 value.1,
       number_nonempty parts.ValueLength (length f.value) value.0 value.2,
       ap length name.3,
-      length-map h.0 (λ (b : ℕ). let z : Part × ℕ = (parts.Name, b) in z),
+      length-mark parts.Name h.0,
       named,
       simp length-map at (ap length h.1),
     )
