@@ -164,6 +164,14 @@ mod tests {
     }
 
     #[test]
+    fn a_write_that_takes_nothing_is_a_fault(rt: HostRuntime) {
+        let mut room = [0; 3];
+        let mut port = StdPort::new(b"".as_slice(), room.as_mut_slice());
+        assert!(rt; write_all(&mut port, b"hello").is_err());
+        assert_eq!(rt; (port.read_faults, port.write_faults), (0, 1));
+    }
+
+    #[test]
     fn a_sink_writes(rt: HostRuntime) -> Result<(), Fail> {
         let mut sink = ErrSink::new(Vec::new(rt.alloc()));
         write_all(&mut sink, b"hello")?;
