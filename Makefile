@@ -1,4 +1,4 @@
-# Builds, tests and installs `bhttp`. Each step needs the toolchain's `rt` alone.
+# Builds, tests and installs `bhttp`. Beside the toolchain's `rt`, `install` needs GNU install, and `measure` Python 3 and dd on Linux.
 PREFIX ?= /usr/local
 PROGRAM = crates/bhttp/out/bhttp
 
