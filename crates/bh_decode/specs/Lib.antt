@@ -5,3 +5,4 @@ pub mod Numbers
 pub mod Contexts
 pub mod Responses
 pub mod Answering
+pub mod Found

@@ -1,7 +1,7 @@
 //! What stands behind the control data.
 ghost use Rattle.std.specs.Prelude.{◌≡◌, ◌≤◌, ◌^◌, None, length, IfOk, IfErr};
-ghost use Rattle.bh_control.specs.Pieces.{IsText};
-ghost use Rattle.bh_decode.specs.Grammar.{IsAfterStart, AfterOf};
+ghost use Rattle.bh_decode.specs.Found.{IsAfterControl};
+ghost use Rattle.bh_decode.specs.Grammar.{IsAfterStart};
 ghost use Rattle.bh_decode.specs.Stops.{FailsFor};
 
 use crate::fault::Fault;
@@ -27,7 +27,7 @@ pub fn read_after_control(
     bytes: &[u8],
 ) -> Result<AfterControl, Fault>
     requires { length bytes.now ≤ 2 ^ 40 }
-    ensures whole { IfOk result (λ after. IsText (AfterOf reader.old.limits form after.fields.lines after.tail.content after.tail.trailers.lines after.tail.omitted after.tail.padding) bytes.now) }
+    ensures whole { IfOk result (IsAfterControl reader.old.limits form bytes.now) }
     ensures ended { IfOk result (λ after. after.fields.making ≡ None) }
     ensures trailers_ended { IfOk result (λ after. after.tail.trailers.making ≡ None) }
     ensures stops { IfErr result (FailsFor (λ L. IsAfterStart L form) reader.old.limits bytes.now) }

@@ -1,11 +1,10 @@
 //! A response up to its final status.
-ghost use Rattle.std.specs.Prelude.{◌≡◌, ◌≤◌, ◌^◌, [], Some, map, take, length, IfOk, IfErr};
+ghost use Rattle.std.specs.Prelude.{◌≡◌, ◌≤◌, ◌^◌, Some, length, IfOk, IfErr};
 ghost use Rattle.bh_spec.specs.Bounds.{no_bounds};
-ghost use Rattle.bh_model.specs.Values.{interim_of, AreEnded};
-ghost use Rattle.bh_control.specs.Pieces.{Ends};
-ghost use Rattle.bh_decode.specs.Contexts.{Context};
-ghost use Rattle.bh_decode.specs.Grammar.{IsResponseText, IsAfterStart};
-ghost use Rattle.bh_decode.specs.Responses.{ResponsePartIs, OpeningOf};
+ghost use Rattle.bh_model.specs.Values.{AreEnded};
+ghost use Rattle.bh_decode.specs.Found.{IsOpening, IsBehindOpening};
+ghost use Rattle.bh_decode.specs.Grammar.{IsResponseText};
+ghost use Rattle.bh_decode.specs.Responses.{ResponsePartIs};
 ghost use Rattle.bh_decode.specs.Stops.{FailsFor};
 
 use crate::fault::Fault;
@@ -77,10 +76,10 @@ pub fn read_opening(
 ) -> Result<Opening, Fault>
     requires short { length bytes.now ≤ 2 ^ 40 }
     requires most { reader.old.limits.interims ≡ Some most }
-    ensures whole { IfOk result (λ opening. Ends (OpeningOf reader.old.limits form (map interim_of opening.interims) opening.status) [] bytes.now opening.taken) }
+    ensures whole { IfOk result (IsOpening reader.old.limits form bytes.now) }
     ensures ended { IfOk result (λ opening. AreEnded opening.interims) }
-    ensures behind { IfOk result (λ opening. Context (IsResponseText reader.old.limits form 0) (IsAfterStart reader.old.limits form) (take opening.taken bytes.now) 0) }
-    ensures anyway { IfOk result (λ opening. Context (IsResponseText no_bounds form 0) (IsAfterStart no_bounds form) (take opening.taken bytes.now) 0) }
+    ensures behind { IfOk result (IsBehindOpening reader.old.limits form bytes.now) }
+    ensures anyway { IfOk result (IsBehindOpening no_bounds form bytes.now) }
     ensures limits { reader.new.limits ≡ reader.old.limits }
     ensures stops { IfErr result (FailsFor (λ L. IsResponseText L form 0) reader.old.limits bytes.now) }
 {

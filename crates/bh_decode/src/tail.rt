@@ -1,7 +1,8 @@
 //! What stands behind the header section.
 ghost use Rattle.std.specs.Prelude.{◌≡◌, ◌≤◌, ◌^◌, None, length, IfOk, IfErr};
 ghost use Rattle.bh_control.specs.Pieces.{IsText};
-ghost use Rattle.bh_decode.specs.Grammar.{IsEndText, IsRestText, EndOf, RestOf};
+ghost use Rattle.bh_decode.specs.Found.{IsTailOf};
+ghost use Rattle.bh_decode.specs.Grammar.{IsEndText, IsRestText, EndOf};
 ghost use Rattle.bh_decode.specs.Stops.{FailsFor};
 
 use crate::body::read_body;
@@ -60,7 +61,7 @@ pub fn read_tail(
     bytes: &[u8],
 ) -> Result<Tail, Fault>
     requires { length bytes.now ≤ 2 ^ 40 }
-    ensures whole { IfOk result (λ tail. IsText (RestOf reader.old.limits form tail.content tail.trailers.lines tail.omitted tail.padding) bytes.now) }
+    ensures whole { IfOk result (IsTailOf reader.old.limits form bytes.now) }
     ensures ended { IfOk result (λ tail. tail.trailers.making ≡ None) }
     ensures stops { IfErr result (FailsFor (λ L. IsRestText L form) reader.old.limits bytes.now) }
 {

@@ -2,8 +2,8 @@
 ghost use Rattle.std.specs.Prelude.{◌≡◌, ◌≤◌, ◌^◌, Some, length, IfOk, IfErr};
 ghost use Rattle.bh_spec.specs.Viable.{SpellsBytes};
 ghost use Rattle.bh_spec.specs.declared.Kind.TheVariants as kinds;
-ghost use Rattle.bh_control.specs.Pieces.{IsText};
-ghost use Rattle.bh_decode.specs.Grammar.{IsAfterFraming, IsMessageText, FramedOf};
+ghost use Rattle.bh_decode.specs.Found.{IsFramedMessage};
+ghost use Rattle.bh_decode.specs.Grammar.{IsAfterFraming, IsMessageText};
 ghost use Rattle.bh_decode.specs.Stops.{FailsFor};
 
 use crate::control::read_control;
@@ -34,7 +34,7 @@ fn read_request(
 ) -> Result<Whole, Fault>
     requires short { length bytes.now ≤ 2 ^ 40 }
     requires limits { reader.old.limits ≡ limits.now }
-    ensures whole { IfOk result (λ read. IsText (FramedOf limits.now kinds.Request form read.message read.omitted read.padding) bytes.now) }
+    ensures whole { IfOk result (IsFramedMessage limits.now kinds.Request form bytes.now) }
     ensures stops { IfErr result (FailsFor (λ L. IsAfterFraming L (kinds.Request, form)) limits.now bytes.now) }
 {
     let start = read_control(alloc, limits, bytes)?;
@@ -64,7 +64,7 @@ fn read_response(
 ) -> Result<Whole, Fault>
     requires short { length bytes.now ≤ 2 ^ 40 }
     requires limits { reader.old.limits ≡ limits.now }
-    ensures whole { IfOk result (λ read. IsText (FramedOf limits.now kinds.Response form read.message read.omitted read.padding) bytes.now) }
+    ensures whole { IfOk result (IsFramedMessage limits.now kinds.Response form bytes.now) }
     ensures stops { IfErr result (FailsFor (λ L. IsAfterFraming L (kinds.Response, form)) limits.now bytes.now) }
 {
     let start = read_opening(alloc, limits.interims(), reader, form, bytes)?;
@@ -99,7 +99,7 @@ fn read_framed(
     bytes: &[u8],
 ) -> Result<Whole, Fault>
     requires { length bytes.now ≤ 2 ^ 40 }
-    ensures whole { IfOk result (λ read. IsText (FramedOf limits.now kind form read.message read.omitted read.padding) bytes.now) }
+    ensures whole { IfOk result (IsFramedMessage limits.now kind form bytes.now) }
     ensures stops { IfErr result (FailsFor (λ L. IsAfterFraming L (kind, form)) limits.now bytes.now) }
 {
     let mut reader = SectionReader::new(alloc, limits)?;
