@@ -10,8 +10,8 @@ use Rattle.bh_fields.specs.Sections.{IsSectionOf, SectionBegins, IsNextPart}
 use Rattle.bh_spec.specs.declared.Form.{Form}
 use Rattle.bh_model.specs.declared.field.Place.{Place}
 use Rattle.bh_fields.specs.declared.walk.Judged.TheVariants as judged
-use Rattle.bh_fields.specs.Views.{SectionView, GoesOnWith, Takes}
-use Rattle.bh_fields.specs.Readers.{IsNeed, IsWholeAt, IsRefusedAt, IsDeadAt, IsLimitAt, Shows}
+use Rattle.bh_fields.specs.Views.{SectionView, reading, whole, GoesOnWith, Takes}
+use Rattle.bh_fields.specs.Readers.{IsNeed, IsWholeAt, IsRefusedAt, IsDeadAt, IsLimitAt, Shows, IsBehind}
 use Rattle.bh_fields.proofs.Tracking.{section_alone, next_begins, next_unfinished, next_once, begins_shorter}
 
 -- a longer front is a shorter one and more
@@ -191,3 +191,25 @@ need_shows v piece o part h next =
       begins = next_begins v.limits v.form v.place (v.bytes ++ piece) part n;
       unfinished = λ fields h. next_unfinished v.limits v.limits v.form v.place fields (v.bytes ++ piece) part n h;
     }
+
+-- ---- the reader behind the piece
+
+pub whole_behind : (v w u : SectionView) (piece : List ℕ) (o : ℕ) → o < length piece → IsOn v w piece o → Takes judged.Whole w (get_or piece o 0) u → IsBehind v piece (Whole (o + 1)) u
+whole_behind v w u piece o h on t = record {
+  limits = t.0.limits ∙ on.limits;
+  form = t.0.form ∙ on.form;
+  place = t.0.place ∙ on.place;
+  bytes = t.1 ∙ on_more v w piece o h on;
+  stage = t.2;
+  lines = λ e. t.3;
+}
+
+pub need_behind : (v w : SectionView) (piece : List ℕ) (o : ℕ) → length piece ≤ o → IsOn v w piece o → w.stage ≡ reading → IsBehind v piece Need w
+need_behind v w piece o h on stage = record {
+  limits = on.limits;
+  form = on.form;
+  place = on.place;
+  bytes = on.bytes ∙ ap (λ (z : List ℕ). v.bytes ++ z) (take_all o piece h);
+  stage = stage;
+  lines = λ e. absurd (let both : reading ≡ whole = sym stage ∙ e in cc);
+}

@@ -3,7 +3,7 @@ ghost use Rattle.std.specs.Prelude.{◌≡◌, ◌↔◌, ℕ, IfOk, IsTrue, Non
 ghost use Rattle.bh_spec.specs.declared.Part.{Part as part_type};
 ghost use Rattle.bh_fields.specs.Sections.{IsNextPart};
 ghost use Rattle.bh_fields.specs.Views.{reading, whole, new_view, begun_view, first_of, Takes};
-ghost use Rattle.bh_fields.specs.Readers.{IsNeed, IsWholeAt, IsDeadAt, IsLimitAt, IsBehind};
+ghost use Rattle.bh_fields.specs.Readers.{IsNeed, IsWholeAt, IsDeadAt, IsLimitAt, IsBehind, Shows};
 
 use crate::walk::{Judged, Phase, Walk};
 use bh_base::NoMemory;
@@ -97,6 +97,9 @@ impl SectionReader {
             → (result ≡ SectionStep.Dead offset part) ↔ IsDeadAt self.old piece.now offset part }
         ensures limit { (offset : ℕ) (part : part_type)
             → (result ≡ SectionStep.Limit offset part) ↔ IsLimitAt self.old piece.now offset part }
+
+        // The same by cases, as an arm of a caller's `match` reads it.
+        ensures shows { Shows self.old piece.now result }
         ensures behind { IsBehind self.old piece.now result self.new }
     {
         let mut part = self.next_part();

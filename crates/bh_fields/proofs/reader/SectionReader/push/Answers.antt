@@ -1,150 +1,75 @@
 use Rattle.std.proofs.Common.{arith, ◌+◌, ℕ, List}
+use Rattle.bh_fields.specs.declared.reader.SectionStep.{SectionStep}
 use Rattle.bh_fields.specs.declared.reader.SectionStep.TheVariants.{Need, Whole, Dead, Limit}
 use Rattle.bh_fields.specs.Views.{SectionView}
 use Rattle.bh_fields.specs.Readers.{Shows}
-use Rattle.bh_fields.proofs.Exactly.{exactly, IsOn, whole_shows, dead_shows, limit_shows, need_shows}
+use Rattle.bh_fields.proofs.Exactly.{exactly, IsOn, whole_shows, dead_shows, limit_shows, need_shows, whole_behind, need_behind}
 use Rattle.bh_fields.proofs.reader.SectionReader.push.Goals as goal
 
-pub returns-in-Whole-clause-need : goal.returns-in-Whole-clause-need
-returns-in-Whole-clause-need c =
+pub returns-in-Whole : goal.returns-in-Whole
+returns-in-Whole c =
     let v : SectionView = c.args.self.now in
     let piece : List ℕ = c.args.piece.now in
     let i = c.loop-offset.invariant in
     let on : IsOn v c.loop-offset.self piece c.loop-offset.offset = record { limits = i.limits; form = i.form; place = i.place; bytes = i.bytes } in
-    let shows : Shows v piece (Whole (c.loop-offset.offset + 1)) = whole_shows v c.loop-offset.self c.take.new.self piece c.loop-offset.offset (omega arith) on c.in-Whole.ensures in
-    exactly v piece (Whole (c.loop-offset.offset + 1)) Need shows
+    let step : SectionStep = Whole (c.loop-offset.offset + 1) in
+    let shows : Shows v piece step = whole_shows v c.loop-offset.self c.take.new.self piece c.loop-offset.offset (omega arith) on c.in-Whole.ensures in
+    record {
+      need = exactly v piece step Need shows;
+      whole = λ taken. exactly v piece step (Whole taken) shows;
+      dead = λ offset part. exactly v piece step (Dead offset part) shows;
+      limit = λ offset part. exactly v piece step (Limit offset part) shows;
+      shows = shows;
+      behind = whole_behind v c.loop-offset.self c.take.new.self piece c.loop-offset.offset (omega arith) on c.in-Whole.ensures;
+    }
 
-pub returns-in-Whole-clause-whole : goal.returns-in-Whole-clause-whole
-returns-in-Whole-clause-whole c =
+pub returns-in-Limit : goal.returns-in-Limit
+returns-in-Limit c =
     let v : SectionView = c.args.self.now in
     let piece : List ℕ = c.args.piece.now in
     let i = c.loop-offset.invariant in
     let on : IsOn v c.loop-offset.self piece c.loop-offset.offset = record { limits = i.limits; form = i.form; place = i.place; bytes = i.bytes } in
-    let shows : Shows v piece (Whole (c.loop-offset.offset + 1)) = whole_shows v c.loop-offset.self c.take.new.self piece c.loop-offset.offset (omega arith) on c.in-Whole.ensures in
-    λ taken. exactly v piece (Whole (c.loop-offset.offset + 1)) (Whole taken) shows
+    let step : SectionStep = Limit c.loop-offset.offset c.loop-offset.part in
+    let shows : Shows v piece step = limit_shows v c.loop-offset.self c.take.new.self piece c.loop-offset.offset c.loop-offset.part (omega arith) on i.next c.in-Limit.ensures in
+    record {
+      need = exactly v piece step Need shows;
+      whole = λ taken. exactly v piece step (Whole taken) shows;
+      dead = λ offset part. exactly v piece step (Dead offset part) shows;
+      limit = λ offset part. exactly v piece step (Limit offset part) shows;
+      shows = shows;
+      behind = search arith;
+    }
 
-pub returns-in-Whole-clause-dead : goal.returns-in-Whole-clause-dead
-returns-in-Whole-clause-dead c =
+pub returns-in-Dead : goal.returns-in-Dead
+returns-in-Dead c =
     let v : SectionView = c.args.self.now in
     let piece : List ℕ = c.args.piece.now in
     let i = c.loop-offset.invariant in
     let on : IsOn v c.loop-offset.self piece c.loop-offset.offset = record { limits = i.limits; form = i.form; place = i.place; bytes = i.bytes } in
-    let shows : Shows v piece (Whole (c.loop-offset.offset + 1)) = whole_shows v c.loop-offset.self c.take.new.self piece c.loop-offset.offset (omega arith) on c.in-Whole.ensures in
-    λ offset part. exactly v piece (Whole (c.loop-offset.offset + 1)) (Dead offset part) shows
+    let step : SectionStep = Dead c.loop-offset.offset c.loop-offset.part in
+    let shows : Shows v piece step = dead_shows v c.loop-offset.self c.take.new.self piece c.loop-offset.offset c.loop-offset.part (omega arith) on i.next c.in-Dead.ensures in
+    record {
+      need = exactly v piece step Need shows;
+      whole = λ taken. exactly v piece step (Whole taken) shows;
+      dead = λ offset part. exactly v piece step (Dead offset part) shows;
+      limit = λ offset part. exactly v piece step (Limit offset part) shows;
+      shows = shows;
+      behind = search arith;
+    }
 
-pub returns-in-Whole-clause-limit : goal.returns-in-Whole-clause-limit
-returns-in-Whole-clause-limit c =
+pub returns : goal.returns
+returns c =
     let v : SectionView = c.args.self.now in
     let piece : List ℕ = c.args.piece.now in
     let i = c.loop-offset.invariant in
     let on : IsOn v c.loop-offset.self piece c.loop-offset.offset = record { limits = i.limits; form = i.form; place = i.place; bytes = i.bytes } in
-    let shows : Shows v piece (Whole (c.loop-offset.offset + 1)) = whole_shows v c.loop-offset.self c.take.new.self piece c.loop-offset.offset (omega arith) on c.in-Whole.ensures in
-    λ offset part. exactly v piece (Whole (c.loop-offset.offset + 1)) (Limit offset part) shows
-
-pub returns-in-Limit-clause-need : goal.returns-in-Limit-clause-need
-returns-in-Limit-clause-need c =
-    let v : SectionView = c.args.self.now in
-    let piece : List ℕ = c.args.piece.now in
-    let i = c.loop-offset.invariant in
-    let on : IsOn v c.loop-offset.self piece c.loop-offset.offset = record { limits = i.limits; form = i.form; place = i.place; bytes = i.bytes } in
-    let shows : Shows v piece (Limit c.loop-offset.offset c.loop-offset.part) = limit_shows v c.loop-offset.self c.take.new.self piece c.loop-offset.offset c.loop-offset.part (omega arith) on i.next c.in-Limit.ensures in
-    exactly v piece (Limit c.loop-offset.offset c.loop-offset.part) Need shows
-
-pub returns-in-Limit-clause-whole : goal.returns-in-Limit-clause-whole
-returns-in-Limit-clause-whole c =
-    let v : SectionView = c.args.self.now in
-    let piece : List ℕ = c.args.piece.now in
-    let i = c.loop-offset.invariant in
-    let on : IsOn v c.loop-offset.self piece c.loop-offset.offset = record { limits = i.limits; form = i.form; place = i.place; bytes = i.bytes } in
-    let shows : Shows v piece (Limit c.loop-offset.offset c.loop-offset.part) = limit_shows v c.loop-offset.self c.take.new.self piece c.loop-offset.offset c.loop-offset.part (omega arith) on i.next c.in-Limit.ensures in
-    λ taken. exactly v piece (Limit c.loop-offset.offset c.loop-offset.part) (Whole taken) shows
-
-pub returns-in-Limit-clause-dead : goal.returns-in-Limit-clause-dead
-returns-in-Limit-clause-dead c =
-    let v : SectionView = c.args.self.now in
-    let piece : List ℕ = c.args.piece.now in
-    let i = c.loop-offset.invariant in
-    let on : IsOn v c.loop-offset.self piece c.loop-offset.offset = record { limits = i.limits; form = i.form; place = i.place; bytes = i.bytes } in
-    let shows : Shows v piece (Limit c.loop-offset.offset c.loop-offset.part) = limit_shows v c.loop-offset.self c.take.new.self piece c.loop-offset.offset c.loop-offset.part (omega arith) on i.next c.in-Limit.ensures in
-    λ offset part. exactly v piece (Limit c.loop-offset.offset c.loop-offset.part) (Dead offset part) shows
-
-pub returns-in-Limit-clause-limit : goal.returns-in-Limit-clause-limit
-returns-in-Limit-clause-limit c =
-    let v : SectionView = c.args.self.now in
-    let piece : List ℕ = c.args.piece.now in
-    let i = c.loop-offset.invariant in
-    let on : IsOn v c.loop-offset.self piece c.loop-offset.offset = record { limits = i.limits; form = i.form; place = i.place; bytes = i.bytes } in
-    let shows : Shows v piece (Limit c.loop-offset.offset c.loop-offset.part) = limit_shows v c.loop-offset.self c.take.new.self piece c.loop-offset.offset c.loop-offset.part (omega arith) on i.next c.in-Limit.ensures in
-    λ offset part. exactly v piece (Limit c.loop-offset.offset c.loop-offset.part) (Limit offset part) shows
-
-pub returns-in-Dead-clause-need : goal.returns-in-Dead-clause-need
-returns-in-Dead-clause-need c =
-    let v : SectionView = c.args.self.now in
-    let piece : List ℕ = c.args.piece.now in
-    let i = c.loop-offset.invariant in
-    let on : IsOn v c.loop-offset.self piece c.loop-offset.offset = record { limits = i.limits; form = i.form; place = i.place; bytes = i.bytes } in
-    let shows : Shows v piece (Dead c.loop-offset.offset c.loop-offset.part) = dead_shows v c.loop-offset.self c.take.new.self piece c.loop-offset.offset c.loop-offset.part (omega arith) on i.next c.in-Dead.ensures in
-    exactly v piece (Dead c.loop-offset.offset c.loop-offset.part) Need shows
-
-pub returns-in-Dead-clause-whole : goal.returns-in-Dead-clause-whole
-returns-in-Dead-clause-whole c =
-    let v : SectionView = c.args.self.now in
-    let piece : List ℕ = c.args.piece.now in
-    let i = c.loop-offset.invariant in
-    let on : IsOn v c.loop-offset.self piece c.loop-offset.offset = record { limits = i.limits; form = i.form; place = i.place; bytes = i.bytes } in
-    let shows : Shows v piece (Dead c.loop-offset.offset c.loop-offset.part) = dead_shows v c.loop-offset.self c.take.new.self piece c.loop-offset.offset c.loop-offset.part (omega arith) on i.next c.in-Dead.ensures in
-    λ taken. exactly v piece (Dead c.loop-offset.offset c.loop-offset.part) (Whole taken) shows
-
-pub returns-in-Dead-clause-dead : goal.returns-in-Dead-clause-dead
-returns-in-Dead-clause-dead c =
-    let v : SectionView = c.args.self.now in
-    let piece : List ℕ = c.args.piece.now in
-    let i = c.loop-offset.invariant in
-    let on : IsOn v c.loop-offset.self piece c.loop-offset.offset = record { limits = i.limits; form = i.form; place = i.place; bytes = i.bytes } in
-    let shows : Shows v piece (Dead c.loop-offset.offset c.loop-offset.part) = dead_shows v c.loop-offset.self c.take.new.self piece c.loop-offset.offset c.loop-offset.part (omega arith) on i.next c.in-Dead.ensures in
-    λ offset part. exactly v piece (Dead c.loop-offset.offset c.loop-offset.part) (Dead offset part) shows
-
-pub returns-in-Dead-clause-limit : goal.returns-in-Dead-clause-limit
-returns-in-Dead-clause-limit c =
-    let v : SectionView = c.args.self.now in
-    let piece : List ℕ = c.args.piece.now in
-    let i = c.loop-offset.invariant in
-    let on : IsOn v c.loop-offset.self piece c.loop-offset.offset = record { limits = i.limits; form = i.form; place = i.place; bytes = i.bytes } in
-    let shows : Shows v piece (Dead c.loop-offset.offset c.loop-offset.part) = dead_shows v c.loop-offset.self c.take.new.self piece c.loop-offset.offset c.loop-offset.part (omega arith) on i.next c.in-Dead.ensures in
-    λ offset part. exactly v piece (Dead c.loop-offset.offset c.loop-offset.part) (Limit offset part) shows
-
-pub returns-clause-need : goal.returns-clause-need
-returns-clause-need c =
-    let v : SectionView = c.args.self.now in
-    let piece : List ℕ = c.args.piece.now in
-    let i = c.loop-offset.invariant in
-    let on : IsOn v c.loop-offset.self piece c.loop-offset.offset = record { limits = i.limits; form = i.form; place = i.place; bytes = i.bytes } in
-    let shows : Shows v piece (Need) = need_shows v piece c.loop-offset.offset c.loop-offset.part (omega arith) i.next in
-    exactly v piece (Need) Need shows
-
-pub returns-clause-whole : goal.returns-clause-whole
-returns-clause-whole c =
-    let v : SectionView = c.args.self.now in
-    let piece : List ℕ = c.args.piece.now in
-    let i = c.loop-offset.invariant in
-    let on : IsOn v c.loop-offset.self piece c.loop-offset.offset = record { limits = i.limits; form = i.form; place = i.place; bytes = i.bytes } in
-    let shows : Shows v piece (Need) = need_shows v piece c.loop-offset.offset c.loop-offset.part (omega arith) i.next in
-    λ taken. exactly v piece (Need) (Whole taken) shows
-
-pub returns-clause-dead : goal.returns-clause-dead
-returns-clause-dead c =
-    let v : SectionView = c.args.self.now in
-    let piece : List ℕ = c.args.piece.now in
-    let i = c.loop-offset.invariant in
-    let on : IsOn v c.loop-offset.self piece c.loop-offset.offset = record { limits = i.limits; form = i.form; place = i.place; bytes = i.bytes } in
-    let shows : Shows v piece (Need) = need_shows v piece c.loop-offset.offset c.loop-offset.part (omega arith) i.next in
-    λ offset part. exactly v piece (Need) (Dead offset part) shows
-
-pub returns-clause-limit : goal.returns-clause-limit
-returns-clause-limit c =
-    let v : SectionView = c.args.self.now in
-    let piece : List ℕ = c.args.piece.now in
-    let i = c.loop-offset.invariant in
-    let on : IsOn v c.loop-offset.self piece c.loop-offset.offset = record { limits = i.limits; form = i.form; place = i.place; bytes = i.bytes } in
-    let shows : Shows v piece (Need) = need_shows v piece c.loop-offset.offset c.loop-offset.part (omega arith) i.next in
-    λ offset part. exactly v piece (Need) (Limit offset part) shows
+    let step : SectionStep = Need in
+    let shows : Shows v piece step = need_shows v piece c.loop-offset.offset c.loop-offset.part (omega arith) i.next in
+    record {
+      need = exactly v piece step Need shows;
+      whole = λ taken. exactly v piece step (Whole taken) shows;
+      dead = λ offset part. exactly v piece step (Dead offset part) shows;
+      limit = λ offset part. exactly v piece step (Limit offset part) shows;
+      shows = shows;
+      behind = need_behind v c.loop-offset.self piece c.loop-offset.offset (omega arith) on i.stage;
+    }
