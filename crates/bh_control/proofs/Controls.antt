@@ -10,13 +10,13 @@ use Rattle.bh_control.specs.declared.progress.Phase.TheVariants.{Idle, Length, B
 use Rattle.bh_control.specs.declared.progress.Progress.{Progress}
 use Rattle.bh_control.specs.declared.control.ControlStep.{ControlStep}
 use Rattle.bh_control.specs.declared.control.ControlStep.TheVariants.{Need, Whole, Dead, Limit}
-use Rattle.bh_control.specs.Pieces.{IsText, CanBecome, IsNext, IsRefused}
+use Rattle.bh_spec.specs.Pieces.{IsText, CanBecome, IsNext, IsRefused}
 use Rattle.bh_control.specs.Control.{ControlOf, IsControlText, reading, AnswersControl}
 use Rattle.bh_control.specs.Phases.{Read, part_now, IsOpenAt, HasNone, HasSome}
 use Rattle.bh_control.specs.Stored.{control_in, no_strings, HasRoom}
 use Rattle.bh_control.specs.Reading.{read_of, IsReading, Allows, IsTaken, Keeps}
 use Rattle.bh_control.specs.Sound.{stage_of, IsLive, Knows, IsSound}
-use Rattle.bh_control.proofs.Pieces.{next_taken, next_unfinished, refused_at, whole_whole, whole_refused, on_refused, refused_refused, refused_part, dead_limit}
+use Rattle.bh_spec.proofs.Pieces.{next_taken, next_unfinished, refused_at, whole_whole, whole_refused, on_refused, refused_refused, refused_part, dead_limit}
 use Rattle.bh_control.proofs.Steps.{read_at}
 use Rattle.bh_control.proofs.Completing.{open_goes, behind_nothing}
 use Rattle.bh_control.proofs.Following.{follows_start, follows_step, one_part, none_becomes, some_next, some_becomes, whole_text, controls_once}

@@ -16,14 +16,14 @@ use Rattle.bh_control.specs.declared.strings.Place.{Place}
 use Rattle.bh_control.specs.declared.strings.Place.TheVariants.{Method, Scheme, Authority, Path}
 use Rattle.bh_control.specs.declared.progress.Phase.{Phase}
 use Rattle.bh_control.specs.declared.progress.Phase.TheVariants.{Idle, Length, Bytes, Whole, Refused}
-use Rattle.bh_control.specs.Pieces.{IsText, CanBecome, IsNext}
+use Rattle.bh_spec.specs.Pieces.{IsText, CanBecome, IsNext}
 use Rattle.bh_control.specs.Control.{ControlOf, IsControlText}
 use Rattle.bh_control.specs.Phases.{Read, long_of, part_of, part_now, Holds, HasString, BehindPath, BehindAuthority, BehindScheme, BehindMethod, Rest, IsOpenAt, Steps, HasNone, HasSome}
 use Rattle.bh_control.specs.Stored.{no_strings}
 use Rattle.bh_control.specs.Reading.{IsReading}
 use Rattle.bh_control.specs.Sound.{Follows}
 use Rattle.bh_control.specs.Laws.{OneControl, OneNextPart}
-use Rattle.bh_control.proofs.Pieces.{one_next}
+use Rattle.bh_spec.proofs.Pieces.{one_next}
 use Rattle.bh_control.proofs.Steps.{read_at, part_length, part_byte}
 
 -- ---- the grammar of control data, and the strings of a reader

@@ -1,4 +1,3 @@
-pub mod Pieces
 pub mod Statuses
 pub mod Opening
 pub mod Texts

@@ -6,7 +6,7 @@ use Rattle.bh_spec.specs.Spelling.{IsRequest}
 use Rattle.bh_spec.specs.Texts.{Text}
 use Rattle.bh_control.specs.declared.control.ControlStep.{ControlStep}
 use Rattle.bh_control.specs.declared.control.ControlStep.TheVariants.{Need, Whole, Dead, Limit}
-use Rattle.bh_control.specs.Pieces.{Ends, GoesOn, IsDead, IsLimit}
+use Rattle.bh_spec.specs.Pieces.{SomeOf, Ends, GoesOn, IsDead, IsLimit}
 
 -- the text of control data that keeps the rules, within the limits
 pub record ControlOf (L : Bounds) (c : Control) (t : Text) : Type 0 where
@@ -14,7 +14,7 @@ pub record ControlOf (L : Bounds) (c : Control) (t : Text) : Type 0 where
   pub spelled : IsRequest L c t
 
 abbrev pub IsControlText : Bounds → Text → Type 0
-IsControlText L t = (c : Control) × ControlOf L c t
+IsControlText L = SomeOf (ControlOf L)
 
 -- where a reader stands
 pub data Stage : Type 0 where

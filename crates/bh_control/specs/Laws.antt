@@ -3,7 +3,7 @@ use Rattle.std.specs.Prelude.{ℕ, ◌≡◌, List}
 use Rattle.bh_spec.specs.declared.Part.{Part}
 use Rattle.bh_spec.specs.Bounds.{Bounds}
 use Rattle.bh_spec.specs.Messages.{Control}
-use Rattle.bh_control.specs.Pieces.{IsText, IsNext}
+use Rattle.bh_spec.specs.Pieces.{IsText, IsNext}
 use Rattle.bh_control.specs.Control.{ControlOf, IsControlText}
 
 -- Bytes are the text of one control data at most, whatever the limits.

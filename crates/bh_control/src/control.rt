@@ -3,7 +3,7 @@ ghost use Rattle.std.specs.Prelude.{◌≡◌, ◌↔◌, ◌≤◌, ◌+◌, �
 ghost use Rattle.bh_model.specs.Values.{control_lent};
 ghost use Rattle.bh_spec.specs.declared.Part.{Part};
 ghost use Rattle.bh_spec.specs.Bounds.{no_bounds};
-ghost use Rattle.bh_control.specs.Pieces.{IsText, IsNext, Ends, GoesOn, IsDead, IsLimit};
+ghost use Rattle.bh_spec.specs.Pieces.{IsText, IsNext, Ends, GoesOn, IsDead, IsLimit};
 ghost use Rattle.bh_control.specs.Stored.{no_strings};
 ghost use Rattle.bh_control.specs.Control.{ControlOf, IsControlText, reading, idle, AnswersControl, control_kept, stage_behind};
 

@@ -5,28 +5,26 @@ use Rattle.bh_spec.specs.declared.Omitted.{Omitted}
 use Rattle.bh_spec.specs.declared.Refusal.TheVariants.{Dead, Limit, Ended, TooLong}
 use Rattle.bh_spec.specs.Bounds.{Bounds, IsWithin, no_bounds}
 use Rattle.bh_spec.specs.Messages.{Message}
-use Rattle.bh_spec.specs.Viable.{SpellsBytes, IsViable, NextPart}
+use Rattle.bh_spec.specs.Pieces.{IsRefused}
+use Rattle.bh_spec.specs.Viable.{SpellsBytes, IsViable, NextPart, IsMessageText}
 use Rattle.bh_spec.specs.Answers.{whole, refused, IsRefusedAt, HasEnded, IsTooLong}
+use Rattle.bh_spec.proofs.Pieces.{refused_refused}
 use Rattle.bh_spec.proofs.Whole.{one_reading, one_next}
 use Rattle.bh_decode.specs.Laws.{OneAnswer, FirstRefusedByte}
 use Rattle.bh_decode.proofs.Prefixes.{viable_less, viable_take}
 
 spelled_viable : (L : Bounds) (m : Message) (o : Omitted) (z : ℕ) (bytes : List ℕ) → SpellsBytes L m o z bytes → IsViable L bytes
-spelled_viable L m o z bytes h = record { message = m; omitted = o; padding = z; text = h.0; after = []; spelled = h.1; begins = h.2 ∙ sym (append-nil bytes) }
+spelled_viable L m o z bytes h = record { text = h.0; after = []; spelled = (m, o, z, h.1); begins = h.2 ∙ sym (append-nil bytes) }
+
+-- an input is one piece, with nothing before it
+as_piece : (L : Bounds) (bytes : List ℕ) (at : ℕ) (part : Part) → IsRefusedAt L bytes at part → IsRefused (IsMessageText L) [] bytes at part
+as_piece L bytes at part h = record { inside = h.inside; next = h.next; after = h.after }
 
 -- a refused byte is the first, so there is one
 same_place : (L : Bounds) (bytes : List ℕ) (i j : ℕ) (p q : Part) → IsRefusedAt L bytes i p → IsRefusedAt L bytes j q → (i ≡ j) × (p ≡ q)
 same_place L bytes i j p q a b =
-    let same : i ≡ j = by_order (order i j) in
+    let same : i ≡ j = refused_refused (IsMessageText L) [] bytes i j p q (as_piece L bytes i p a) (as_piece L bytes j q b) in
     (same, one_next L L (take i bytes) p q a.next (subst (λ (k : ℕ). NextPart L (take k bytes) q) (sym same) b.next))
-  where
-    order : (m n : ℕ) → (m ≡ n) ⊎ ((m < n) ⊎ (n < m))
-    order m n = grind arith
-
-    by_order : (i ≡ j) ⊎ ((i < j) ⊎ (j < i)) → i ≡ j
-    by_order (inl e) = e
-    by_order (inr (inl h)) = absurd (a.after (viable_less L (i + 1) j bytes (omega arith) b.before))
-    by_order (inr (inr h)) = absurd (b.after (viable_less L (j + 1) i bytes (omega arith) a.before))
 
 -- where all bytes are viable, none is refused
 none_refused : (L : Bounds) (bytes : List ℕ) (i : ℕ) (p : Part) → IsViable L bytes → IsRefusedAt L bytes i p → ⊥

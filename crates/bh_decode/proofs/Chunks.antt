@@ -3,16 +3,16 @@ use Rattle.std.proofs.Common.{◌≡◌, ◌<◌, ◌≤◌, ◌+◌, ◌⊎◌,
 use Rattle.std.specs.List.{concat}
 use Rattle.std.proofs.lemmas.List.{length-append, length-drop}
 use Rattle.std.proofs.lemmas.List.Elements.{All-nil, All-cons, All-append, All-head, All-tail, All-push}
+use Rattle.bh_spec.specs.Bytes.{AreBytes}
 use Rattle.bh_spec.specs.declared.Part.TheVariants as parts
 use Rattle.bh_spec.specs.declared.Form.TheVariants.{Indeterminate}
 use Rattle.bh_spec.specs.Texts.{Text, bytes_of, IsNumber, ◌then◌, AreEach, IsString}
-use Rattle.bh_spec.proofs.Prefixes.{AreBytes}
 use Rattle.bh_spec.proofs.Marks.{bytes_of-append}
-use Rattle.bh_control.specs.Pieces.{IsText, Ends}
-use Rattle.bh_control.proofs.Pieces.{IsOnce}
+use Rattle.bh_spec.specs.Pieces.{SomeOf, IsText, Ends}
+use Rattle.bh_spec.proofs.Pieces.{IsOnce}
 use Rattle.bh_decode.specs.declared.stop.Stop.{Stop}
 use Rattle.bh_decode.specs.Grammar.{RunOf, BodyOf}
-use Rattle.bh_decode.specs.Stops.{SomeOf, StopsThing, stop_behind}
+use Rattle.bh_decode.specs.Stops.{StopsThing, stop_behind}
 use Rattle.bh_decode.proofs.Contexts.{Context, context_on, context_behind, context_same, once_of, SomeThen, Follows}
 use Rattle.bh_decode.proofs.Fronts.{length_front, split_more}
 use Rattle.bh_decode.proofs.Runs.{runs_once, run_long}
@@ -127,7 +127,7 @@ pub record Chunked (content bytes : List ℕ) (taken : ℕ) : Type 0 where
   pub chunks : List (List ℕ)
   pub joined : concat chunks ≡ content
   pub some : All (λ chunk. 0 < length chunk) chunks
-  pub small : All (λ byte. byte < 256) content
+  pub small : AreBytes content
   pub text : Text
   pub each : AreEach (IsString parts.ChunkLength parts.Content) chunks text
   pub same : bytes_of text ≡ take taken bytes

@@ -8,10 +8,9 @@ use Rattle.bh_spec.specs.Texts.{Text, bytes_of, ◌then◌}
 use Rattle.bh_spec.proofs.Meeting.{meets_front}
 use Rattle.bh_spec.proofs.Agreement.{Agree, agree_map}
 use Rattle.bh_spec.proofs.Marks.{bytes_of-append}
-use Rattle.bh_control.specs.Pieces.{IsText, CanBecome, IsNext, GoesOn, IsRefused, IsDead, IsLimit}
-use Rattle.bh_decode.specs.Stops.{SomeOf}
+use Rattle.bh_spec.specs.Pieces.{SomeOf, IsText, CanBecome, IsNext, GoesOn, IsRefused, IsDead, IsLimit}
 pub use Rattle.bh_decode.specs.Contexts.{Context}
-use Rattle.bh_control.proofs.Pieces.{IsOnce, next_once, longer}
+use Rattle.bh_spec.proofs.Pieces.{IsOnce, next_once, longer}
 
 pub context_here : (M : Text → Type 0) → Context M M [] 0
 context_here M = record { into = λ x h. h; out = λ x h. h; next = λ x part h. h; text = λ x n h. h }

@@ -3,10 +3,10 @@ use Rattle.std.proofs.Common.{◌≡◌, ◌≤◌, ℕ, List, [], length, take,
 use Rattle.bh_spec.specs.declared.Part.{Part}
 use Rattle.bh_spec.specs.Bounds.{Bounds}
 use Rattle.bh_spec.specs.Messages.{Control}
-use Rattle.bh_control.specs.Pieces.{IsText, IsNext, Ends}
-use Rattle.bh_control.proofs.Pieces.{next_unfinished}
+use Rattle.bh_spec.specs.Pieces.{SomeOf, IsText, IsNext, Ends}
+use Rattle.bh_spec.proofs.Pieces.{next_unfinished}
 use Rattle.bh_control.specs.Control.{ControlOf}
-use Rattle.bh_decode.specs.Stops.{SomeOf, IsCutThing}
+use Rattle.bh_decode.specs.Stops.{IsCutThing}
 use Rattle.bh_decode.proofs.Contexts.{once_of}
 use Rattle.bh_decode.proofs.Grammars.{control_once}
 

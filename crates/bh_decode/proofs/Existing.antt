@@ -15,7 +15,6 @@ use Rattle.std.proofs.lemmas.List.{take_all}
 use Rattle.bh_decode.specs.Laws.{SomeAnswer}
 use Rattle.bh_spec.proofs.Within.{zero_within}
 use Rattle.bh_decode.proofs.Grammars.{framed_message, some_response}
-use Rattle.bh_decode.proofs.Lifted.{viable_of}
 
 one_less : (most : Option ℕ) (k : ℕ) → IsWithin most (suc k) → IsWithin most k
 one_less None k h = tt
@@ -27,12 +26,12 @@ nothing_viable L =
     let r = some_response L Known 0 (zero_within L.interims) in
     let number = mark parts.Framing (1 ∷ []) in
     let text = number ++ r.0 in
-    viable_of L [] (record {
+    record {
       text = text;
       after = bytes_of text;
       spelled = framed_message L text ((Response, Known), (number, r.0, record { width = One; fits = omega arith; spelled = refl }, r.1, refl));
       begins = refl;
-    })
+    }
 
 -- with the next byte too, where no byte is refused
 step : (L : Bounds) (bytes : List ℕ) (k : ℕ) → ((a : Answer) → IsAnswer L bytes a → ⊥) → k < length bytes → IsWithin L.input (k + 1) → IsViable L (take k bytes) → (IsViable L (take (k + 1) bytes) → ⊥) → ⊥

@@ -11,21 +11,21 @@ use Rattle.bh_spec.specs.Messages.{Field, Control, IsControl}
 use Rattle.bh_spec.specs.Texts.{Text}
 use Rattle.bh_control.specs.Control.{ControlOf}
 use Rattle.bh_control.specs.Statuses.{StatusOf}
-use Rattle.bh_decode.specs.Grammar.{HeadersOf, IsRestText, IsAfterStart, IsResponseText, IsAfterFraming, IsFramed, status_left, AfterStatus, TrailersOf, IsPaddingText, IsAfterContent, BodyOf}
+use Rattle.bh_decode.specs.Grammar.{IsRestText, IsAfterStart, IsResponseText, IsAfterFraming, IsFramed, status_left, AfterStatus, IsPaddingText, IsAfterContent, BodyOf}
 use Rattle.bh_decode.proofs.Contexts.{Follows}
 use Rattle.bh_spec.proofs.Within.{zero_within}
 use Rattle.bh_spec.proofs.Limits.{section_anyway, request_anyway}
 use Rattle.bh_spec.proofs.Cases.{a_string}
 use Rattle.bh_decode.proofs.Grammars.{some_headers, some_rest, some_after_start, some_response}
 use Rattle.bh_decode.proofs.Rests.{some_padding}
+use Rattle.bh_model.specs.declared.field.Place.TheVariants.{Header, Trailer}
+use Rattle.bh_model.specs.declared.field.Place.{Place}
+use Rattle.bh_fields.specs.Sections.{SectionOf}
 
 -- ---- within the limits, and so without
 
-pub headers_anyway : (L : Bounds) (form : Form) (fields : List Field) (t : Text) → HeadersOf L form fields t → HeadersOf no_bounds form fields t
-headers_anyway L form fields t h = record { valid = h.valid; spelled = section_anyway L form fields t h.spelled }
-
-pub trailers_anyway : (L : Bounds) (form : Form) (fields : List Field) (t : Text) → TrailersOf L form fields t → TrailersOf no_bounds form fields t
-trailers_anyway L form fields t h = record { valid = h.valid; spelled = section_anyway L form fields t h.spelled }
+pub sections_anyway : (L : Bounds) (form : Form) (place : Place) (fields : List Field) (t : Text) → SectionOf L form place fields t → SectionOf no_bounds form place fields t
+sections_anyway L form place fields t h = (section_anyway L form fields t h.0, h.1)
 
 pub control_anyway : (L : Bounds) (c : Control) (t : Text) → ControlOf L c t → ControlOf no_bounds c t
 control_anyway L c t h = record {
@@ -108,10 +108,10 @@ after_framing L one (Response, form) t h = some_response L form 0 (zero_within L
 pub after_control : (L : Bounds) (form : Form) → Follows (ControlOf L) (λ (c : Control). IsAfterStart L form)
 after_control L form c t h = some_after_start L form
 
-pub after_headers : (L : Bounds) (form : Form) → Follows (HeadersOf L form) (λ (fields : List Field). IsRestText L form)
+pub after_headers : (L : Bounds) (form : Form) → Follows (SectionOf L form Header) (λ (fields : List Field). IsRestText L form)
 after_headers L form fields t h = ([], some_rest L form)
 
-pub after_interim : (L : Bounds) (form : Form) (k : ℕ) → IsWithin L.interims (suc k) → Follows (HeadersOf L form) (λ (fields : List Field). IsResponseText L form (suc k))
+pub after_interim : (L : Bounds) (form : Form) (k : ℕ) → IsWithin L.interims (suc k) → Follows (SectionOf L form Header) (λ (fields : List Field). IsResponseText L form (suc k))
 after_interim L form k within fields t h = some_response L form (suc k) within
 
 -- an interim status leaves room for its response
@@ -137,5 +137,5 @@ after_status L form k status t h = elim (cases_lt status 200) [
 pub after_body : (L : Bounds) (form : Form) → Follows (BodyOf form) (λ (content : List ℕ). IsAfterContent L form)
 after_body L form content t h = ([], inl refl)
 
-pub after_trailers : (L : Bounds) (form : Form) → Follows (TrailersOf L form) (λ (fields : List Field). IsPaddingText)
+pub after_trailers : (L : Bounds) (form : Form) → Follows (SectionOf L form Trailer) (λ (fields : List Field). IsPaddingText)
 after_trailers L form fields t h = ([], some_padding)

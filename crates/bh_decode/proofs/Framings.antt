@@ -6,13 +6,13 @@ use Rattle.bh_spec.specs.declared.Kind.TheVariants.{Request, Response}
 use Rattle.bh_spec.specs.Integers.{vi}
 use Rattle.bh_spec.specs.Texts.{Text, mark, bytes_of, IsNumber}
 use Rattle.bh_spec.proofs.Marks.{unmark, mark-append}
-use Rattle.bh_control.specs.Pieces.{IsNext, GoesOn}
+use Rattle.bh_spec.specs.Pieces.{SomeOf, IsNext, GoesOn}
 use Rattle.std.proofs.lemmas.List.{take_all}
 use Rattle.bh_control.specs.Statuses.{StatusOf}
 use Rattle.bh_decode.specs.declared.stop.Stop.{Stop}
 use Rattle.bh_decode.specs.Grammar.{IsFramed}
 use Rattle.bh_decode.specs.Numbers.{NumberOf}
-use Rattle.bh_decode.specs.Stops.{SomeOf, IsCutThing, StopsThing}
+use Rattle.bh_decode.specs.Stops.{IsCutThing, StopsThing}
 use Rattle.bh_decode.proofs.Stopped.{Same, thing_same}
 
 -- ---- the framing number

@@ -4,7 +4,7 @@ use Rattle.std.proofs.Math.Seq.{take-append-add}
 use Rattle.std.proofs.lemmas.List.{length-take, length-drop}
 use Rattle.bh_spec.specs.Texts.{Text, ◌then◌}
 use Rattle.bh_spec.proofs.Marks.{bytes_of-append}
-use Rattle.bh_control.specs.Pieces.{Ends}
+use Rattle.bh_spec.specs.Pieces.{Ends}
 
 pub length_front : (bytes : List ℕ) (n : ℕ) → n ≤ length bytes → length (take n bytes) ≡ n
 length_front bytes n h = omega (arith, length-take n bytes, h)

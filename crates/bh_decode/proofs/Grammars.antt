@@ -20,8 +20,13 @@ use Rattle.bh_spec.proofs.Whole.{framing_is, request_agrees, headers_named}
 use Rattle.bh_spec.proofs.Within.{no_lines, no_headers}
 use Rattle.bh_control.specs.Control.{ControlOf}
 use Rattle.bh_control.specs.Statuses.{StatusOf}
-use Rattle.bh_decode.specs.Grammar.{IsMessageText, HeadersOf, IsRestText, IsAfterStart, IsResponseText, IsAfterFraming, IsFramed, status_left, AfterStatus}
+use Rattle.bh_spec.specs.Viable.{IsMessageText}
+use Rattle.bh_decode.specs.Grammar.{IsRestText, IsAfterStart, IsResponseText, IsAfterFraming, IsFramed, status_left, AfterStatus}
 use Rattle.bh_decode.proofs.Contexts.{AreOnce, SomeThen}
+use Rattle.bh_model.specs.declared.field.Place.TheVariants.{Header, Trailer}
+use Rattle.bh_model.specs.declared.field.Place.{Place}
+use Rattle.bh_fields.specs.Sections.{SectionOf}
+use Rattle.bh_fields.proofs.Tracking.{sections_meet}
 
 -- ---- the framing number, and what stands behind it
 
@@ -47,7 +52,7 @@ framed_of L m o z t h (request c) e =
               (
                 s.3.0,
                 s.3.1,
-                record { valid = h.valid.fields; spelled = s.3.2 },
+                (s.3.2, h.valid.fields),
                 record { content = m.content; trailers = m.trailers; omitted = o; padding = z; bytes = h.valid.content; valid = h.valid.trailers; spelled = s.3.3 },
                 s.3.4,
               ),
@@ -68,7 +73,7 @@ framed_of L m o z t h (response interims status) e =
       (
         s.3.0,
         s.3.1,
-        record { valid = h.valid.fields; spelled = s.3.2 },
+        (s.3.2, h.valid.fields),
         record { content = m.content; trailers = m.trailers; omitted = o; padding = z; bytes = h.valid.content; valid = h.valid.trailers; spelled = s.3.3 },
         s.3.4,
       ),
@@ -111,9 +116,9 @@ framed_message L t ((Request, form), h) =
       rest.omitted,
       rest.padding,
       record {
-        valid = record { start = s.2.valid; fields = f.2.valid; content = rest.bytes; trailers = rest.valid };
+        valid = record { start = s.2.valid; fields = f.2.1; content = rest.bytes; trailers = rest.valid };
         form = form;
-        text = (h.0, h.1, h.2, (s.0, s.1, s.2.spelled, (f.0, f.1, f.2.spelled, rest.spelled, f.4), s.4), h.4);
+        text = (h.0, h.1, h.2, (s.0, s.1, s.2.spelled, (f.0, f.1, f.2.0, rest.spelled, f.4), s.4), h.4);
       },
     )
 framed_message L t ((Response, form), h) =
@@ -126,7 +131,7 @@ framed_message L t ((Response, form), h) =
       rest.omitted,
       rest.padding,
       record {
-        valid = record { start = record { each = r.each; low = r.low; high = r.high }; fields = f.2.valid; content = rest.bytes; trailers = rest.valid };
+        valid = record { start = record { each = r.each; low = r.low; high = r.high }; fields = f.2.1; content = rest.bytes; trailers = rest.valid };
         form = form;
         text = (
           h.0,
@@ -136,7 +141,7 @@ framed_message L t ((Response, form), h) =
             s.0 ++ s.3.0,
             s.3.1,
             (subst (IsWithin L.interims) (zero-add (length r.interims)) r.few, (s.0, s.3.0, s.2, s.3.2, refl)),
-            (f.0, f.1, f.2.spelled, rest.spelled, f.4),
+            (f.0, f.1, f.2.0, rest.spelled, f.4),
             s.4 ∙ ap (λ (x : Text). s.0 ++ x) s.3.4 ∙ sym (append_assoc s.0 s.3.0 s.3.1),
           ),
           h.4,
@@ -155,8 +160,8 @@ framed_once (k, f) (j, g) t u a b =
 pub control_once : (L : Bounds) → AreOnce (ControlOf L)
 control_once L c d t u a b = request_agrees L L c d t u a.spelled b.spelled
 
-pub headers_once : (L : Bounds) (form : Form) → AreOnce (HeadersOf L form)
-headers_once L form fields others t u a b = section_agrees L L form fields others (headers_named fields a.valid) (headers_named others b.valid) t u a.spelled b.spelled
+pub section_once : (L : Bounds) (form : Form) (place : Place) → AreOnce (SectionOf L form place)
+section_once L form place = sections_meet L L form place
 
 pub status_once : (left : Option ℕ) → AreOnce (StatusOf left)
 status_once left s r t u a b = number_meets parts.Status s r t u a.spelled b.spelled
@@ -211,7 +216,7 @@ one_more L form k t h = by_list h.interims h.each h.few h.spelled
               };
               spelled = b.2;
             },
-            inl (omega (arith, v.high), (i.fields, (b.1, a.1 ++ s.1, record { valid = v.fields; spelled = b.3 }, rest, refl))),
+            inl (omega (arith, v.high), (i.fields, (b.1, a.1 ++ s.1, (b.3, v.fields), rest, refl))),
             joined,
           ),
         )
@@ -230,7 +235,7 @@ one_before L form k within t (status, (x, y, st, inr final, e)) =
     }
 one_before L form k within t (status, (x, y, st, inl (small, (fields, (u, v, headers, rest, f))), e)) =
     let i : Interim = record { status = status; fields = fields } in
-    let valid : IsInterim i = record { low = st.valid.low; high = omega arith; fields = headers.valid } in
+    let valid : IsInterim i = record { low = st.valid.low; high = omega arith; fields = headers.1 } in
     let s = rest.spelled in
     let long : suc k + length rest.interims ≡ k + length (i ∷ rest.interims) = omega arith in
     record {
@@ -243,7 +248,7 @@ one_before L form k within t (status, (x, y, st, inl (small, (fields, (u, v, hea
       spelled = (
         (x ++ u) ++ s.0,
         s.1,
-        (x ++ u, s.0, (x, u, st.spelled, headers.spelled, refl), s.2, refl),
+        (x ++ u, s.0, (x, u, st.spelled, headers.0, refl), s.2, refl),
         s.3,
         e ∙ ap (λ (w : Text). x ++ w) (f ∙ ap (λ (w : Text). u ++ w) s.4) ∙ sym (append_assoc x u (s.0 ++ s.1)) ∙ sym (append_assoc (x ++ u) s.0 s.1),
       );
@@ -251,14 +256,14 @@ one_before L form k within t (status, (x, y, st, inl (small, (fields, (u, v, hea
 
 -- ---- something may follow
 
-pub some_headers : (L : Bounds) (form : Form) → (t : Text) × HeadersOf L form [] t
+pub some_headers : (L : Bounds) (form : Form) → (t : Text) × SectionOf L form Header [] t
 some_headers L Known = (
   mark parts.SectionLength (0 ∷ []),
-  record { valid = no_headers; spelled = ([], no_lines L, (mark parts.SectionLength (0 ∷ []), [], record { width = One; fits = omega arith; spelled = refl }, refl, refl)) },
+  (([], no_lines L, (mark parts.SectionLength (0 ∷ []), [], record { width = One; fits = omega arith; spelled = refl }, refl, refl)), no_headers),
 )
 some_headers L Indeterminate = (
   mark parts.NameLength (0 ∷ []),
-  record { valid = no_headers; spelled = ([], mark parts.NameLength (0 ∷ []), no_lines L, record { width = One; fits = omega arith; spelled = refl }, refl) },
+  (([], mark parts.NameLength (0 ∷ []), no_lines L, record { width = One; fits = omega arith; spelled = refl }, refl), no_headers),
 )
 
 pub some_rest : (L : Bounds) (form : Form) → IsRestText L form []

@@ -4,46 +4,35 @@ use Rattle.bh_spec.specs.declared.Form.{Form}
 use Rattle.bh_spec.specs.declared.Omitted.{Omitted}
 use Rattle.bh_spec.specs.Bounds.{Bounds, no_bounds}
 use Rattle.bh_spec.specs.Messages.{Field}
-use Rattle.bh_model.specs.declared.field.Place.TheVariants.{Header}
+use Rattle.bh_model.specs.declared.field.Place.TheVariants.{Header, Trailer}
 use Rattle.bh_fields.specs.Sections.{SectionOf}
-use Rattle.bh_control.specs.Pieces.{IsText, Ends}
+use Rattle.bh_spec.specs.Pieces.{SomeOf, IsText, Ends}
 use Rattle.bh_decode.specs.declared.stop.Stop.{Stop}
 use Rattle.bh_decode.specs.declared.fault.Fault.{Fault}
 use Rattle.bh_decode.specs.declared.fault.Fault.TheVariants as faults
-use Rattle.bh_decode.specs.Grammar.{HeadersOf, IsRestText, IsAfterStart, RestOf, AfterOf}
-use Rattle.bh_decode.specs.Stops.{SomeOf, Stops, StopsThing, stop_behind, fault_behind, AtStop}
-use Rattle.bh_decode.proofs.Grammars.{headers_once}
+use Rattle.bh_decode.specs.Grammar.{IsRestText, IsAfterStart, RestOf, AfterOf}
+use Rattle.bh_decode.specs.Stops.{Stops, StopsThing, stop_behind, fault_behind, AtStop}
+use Rattle.bh_decode.proofs.Grammars.{section_once}
 use Rattle.bh_decode.proofs.Phases.{stops_then, behind_headers}
 use Rattle.bh_decode.proofs.Stopped.{Same, thing_same}
-use Rattle.bh_decode.proofs.Following.{headers_anyway, after_headers}
+use Rattle.bh_decode.proofs.Following.{sections_anyway, after_headers}
 use Rattle.bh_decode.proofs.Tails.{stops_there, both_texts}
-
-pub headers_same : (L : Bounds) (form : Form) → Same (SomeOf (SectionOf L form Header)) (SomeOf (HeadersOf L form))
-headers_same L form = record {
-  on = λ t h. (h.0, record { valid = h.1.1; spelled = h.1.0 });
-  back = λ t h. (h.0, (h.1.spelled, h.1.valid));
-}
+use Rattle.bh_model.specs.declared.field.Place.{Place}
 
 pub headers_stop : (L : Bounds) (form : Form) (bytes : List ℕ) (stop : Stop) → StopsThing (SomeOf (SectionOf L form Header)) (SomeOf (SectionOf no_bounds form Header)) bytes stop
     → Stops (IsAfterStart L form) (IsAfterStart no_bounds form) bytes stop
 headers_stop L form bytes stop h =
-    stops_then (HeadersOf L form) (λ (fields : List Field). IsRestText L form) (HeadersOf no_bounds form) (λ (fields : List Field). IsRestText no_bounds form)
-    (headers_once L form) (headers_once no_bounds form) (after_headers L form) (after_headers no_bounds form) (headers_anyway L form) bytes stop
-    (thing_same (SomeOf (SectionOf L form Header)) (SomeOf (HeadersOf L form)) (SomeOf (SectionOf no_bounds form Header)) (SomeOf (HeadersOf no_bounds form))
-    (headers_same L form) (headers_same no_bounds form) bytes stop h)
+    stops_then (SectionOf L form Header) (λ (fields : List Field). IsRestText L form) (SectionOf no_bounds form Header) (λ (fields : List Field). IsRestText no_bounds form)
+    (section_once L form Header) (section_once no_bounds form Header) (after_headers L form) (after_headers no_bounds form) (sections_anyway L form Header) bytes stop h
 
-headers_text : (L : Bounds) (form : Form) (fields : List Field) (bytes : List ℕ) → IsText (SectionOf L form Header fields) bytes → IsText (HeadersOf L form fields) bytes
-headers_text L form fields bytes h = record { text = h.text; spelled = record { valid = h.spelled.1; spelled = h.spelled.0 }; same = h.same }
-
-headers_text_anyway : (L : Bounds) (form : Form) (fields : List Field) (bytes : List ℕ) → IsText (HeadersOf L form fields) bytes → IsText (HeadersOf no_bounds form fields) bytes
-headers_text_anyway L form fields bytes h = record { text = h.text; spelled = headers_anyway L form fields h.text h.spelled; same = h.same }
+headers_text_anyway : (L : Bounds) (form : Form) (fields : List Field) (bytes : List ℕ) → IsText (SectionOf L form Header fields) bytes → IsText (SectionOf no_bounds form Header fields) bytes
+headers_text_anyway L form fields bytes h = record { text = h.text; spelled = sections_anyway L form Header fields h.text h.spelled; same = h.same }
 
 rest_stop : (L : Bounds) (form : Form) (fields : List Field) (bytes : List ℕ) (taken : ℕ) (stop : Stop) → Ends (SectionOf L form Header fields) [] bytes taken
     → Stops (IsRestText L form) (IsRestText no_bounds form) (drop taken bytes) stop → Stops (IsAfterStart L form) (IsAfterStart no_bounds form) bytes (stop_behind taken stop)
 rest_stop L form fields bytes taken stop section h =
-    let text = headers_text L form fields (take taken bytes) section.whole in
     stops_there (IsAfterStart L form) (IsRestText L form) (IsAfterStart no_bounds form) (IsRestText no_bounds form) bytes taken 0 0 stop section.within
-    (behind_headers L form fields (take taken bytes) text) (behind_headers no_bounds form fields (take taken bytes) (headers_text_anyway L form fields (take taken bytes) text)) (omega arith) h
+    (behind_headers L form fields (take taken bytes) section.whole) (behind_headers no_bounds form fields (take taken bytes) (headers_text_anyway L form fields (take taken bytes) section.whole)) (omega arith) h
 
 pub rest_fault : (L : Bounds) (form : Form) (fields : List Field) (bytes : List ℕ) (taken : ℕ) (fault : Fault) → Ends (SectionOf L form Header fields) [] bytes taken
     → AtStop (Stops (IsRestText L form) (IsRestText no_bounds form) (drop taken bytes)) fault → AtStop (Stops (IsAfterStart L form) (IsAfterStart no_bounds form) bytes) (fault_behind taken fault)

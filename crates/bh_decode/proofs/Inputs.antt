@@ -5,15 +5,14 @@ use Rattle.bh_spec.specs.declared.Refusal.{Refusal}
 use Rattle.bh_spec.specs.declared.Refusal.TheVariants.{Dead, Limit, Ended, TooLong}
 use Rattle.bh_spec.specs.Bounds.{Bounds}
 use Rattle.bh_spec.specs.Answers.{Answer, whole, refused, IsAnswer}
-use Rattle.bh_spec.specs.Viable.{IsViable}
-use Rattle.bh_control.proofs.Pieces.{text_becomes}
+use Rattle.bh_spec.specs.Viable.{IsViable, IsMessageText}
+use Rattle.bh_spec.proofs.Pieces.{text_becomes}
 use Rattle.bh_decode.specs.declared.spelling.Spelling.{Spelling}
 use Rattle.bh_decode.specs.declared.spelling.ReadError.{ReadError}
 use Rattle.bh_decode.specs.declared.spelling.ReadError.TheVariants.{Refused, NoMemory}
 use Rattle.bh_decode.specs.Answering.{Says, past_limit, IsOnly}
-use Rattle.bh_decode.specs.Grammar.{IsMessageText}
 use Rattle.bh_decode.proofs.Answered.{one_answer, first_refused_byte}
-use Rattle.bh_decode.proofs.Lifted.{viable_of, of_spelled}
+use Rattle.bh_decode.proofs.Lifted.{of_spelled}
 
 -- what was read is the one answer
 pub only : (L : Bounds) (bytes : List ℕ) (answer : Answer) (r : Result Spelling ReadError) → Says L bytes r → IsAnswer L bytes answer → IsOnly answer r
@@ -35,7 +34,7 @@ too_long L bytes most limit more viable = record { limit = limit; more = more; v
 pub longer_whole : (L : Bounds) (bytes : List ℕ) (most : ℕ) (s : Spelling) → L.input ≡ Some most → most < length bytes → Says L (take most bytes) (Ok s) → IsAnswer L bytes (refused (TooLong most))
 longer_whole L bytes most s limit more h =
     too_long L bytes most limit more
-    (viable_of L (take most bytes) (text_becomes (IsMessageText L) (take most bytes) (of_spelled L s.message s.end.omitted s.end.padding (take most bytes) h.1)))
+    (text_becomes (IsMessageText L) (take most bytes) (of_spelled L s.message s.end.omitted s.end.padding (take most bytes) h.1))
 
 longer_refused : (L : Bounds) (bytes : List ℕ) (most : ℕ) (refusal : Refusal) → L.input ≡ Some most → most < length bytes → IsAnswer L (take most bytes) (refused refusal)
     → IsAnswer L bytes (refused (past_limit most refusal))

@@ -8,38 +8,11 @@ use Rattle.bh_spec.specs.declared.Refusal.TheVariants.{Dead, Limit, Ended}
 use Rattle.bh_spec.specs.Bounds.{Bounds, IsWithin, no_bounds}
 use Rattle.bh_spec.specs.Messages.{Message}
 use Rattle.bh_spec.specs.Texts.{Text}
-use Rattle.bh_spec.specs.Viable.{SpellsBytes, IsViable, NextPart}
+use Rattle.bh_spec.specs.Viable.{SpellsBytes, IsViable, NextPart, IsMessageText}
 use Rattle.bh_spec.specs.Answers.{refused, IsRefusedAt, IsAnswer}
-use Rattle.bh_control.specs.Pieces.{IsText, CanBecome, IsNext, IsRefused, IsDead, IsLimit}
-use Rattle.bh_control.proofs.Pieces.{next_becomes}
-use Rattle.bh_decode.specs.Grammar.{IsMessageText}
+use Rattle.bh_spec.specs.Pieces.{IsText, CanBecome, IsNext, IsRefused, IsDead, IsLimit}
+use Rattle.bh_spec.proofs.Pieces.{next_becomes}
 use Rattle.bh_decode.proofs.Contexts.{Context}
-
-pub viable_of : (L : Bounds) (bytes : List ℕ) → CanBecome (IsMessageText L) bytes → IsViable L bytes
-viable_of L bytes h = record {
-  message = h.spelled.0;
-  omitted = h.spelled.1;
-  padding = h.spelled.2;
-  text = h.text;
-  after = h.after;
-  spelled = h.spelled.3;
-  begins = h.begins;
-}
-
-of_viable : (L : Bounds) (bytes : List ℕ) → IsViable L bytes → CanBecome (IsMessageText L) bytes
-of_viable L bytes h = record { text = h.text; after = h.after; spelled = (h.message, h.omitted, h.padding, h.spelled); begins = h.begins }
-
-next_of : (L : Bounds) (bytes : List ℕ) (part : Part) → IsNext (IsMessageText L) bytes part → NextPart L bytes part
-next_of L bytes part h = record {
-  message = h.spelled.0;
-  omitted = h.spelled.1;
-  padding = h.spelled.2;
-  before = h.before;
-  byte = h.byte;
-  after = h.after;
-  spelled = h.spelled.3;
-  begins = h.begins;
-}
 
 pub of_spelled : (L : Bounds) (m : Message) (o : Omitted) (z : ℕ) (bytes : List ℕ) → SpellsBytes L m o z bytes → IsText (IsMessageText L) bytes
 of_spelled L m o z bytes h = record { text = h.0; spelled = (m, o, z, h.1); same = h.2 }
@@ -56,23 +29,23 @@ refused_in : (L : Bounds) (R : Text → Type 0) (done piece : List ℕ) (k n : �
 refused_in L R done piece k n part c h seen = record {
   inside = omega (arith, length-append done piece, h.inside);
   seen = seen;
-  before = subst (IsViable L) (sym (front done piece k)) (viable_of L (done ++ take k piece) (c.into (take k piece) (next_becomes R (take k piece) part h.next)));
-  after = λ v. h.after (c.out (take (k + 1) piece) (of_viable L (done ++ take (k + 1) piece) (subst (IsViable L) (front_more done piece k) v)));
-  next = subst (λ (x : List ℕ). NextPart L x part) (sym (front done piece k)) (next_of L (done ++ take k piece) part (c.next (take k piece) part h.next));
+  before = subst (IsViable L) (sym (front done piece k)) (c.into (take k piece) (next_becomes R (take k piece) part h.next));
+  after = λ v. h.after (c.out (take (k + 1) piece) (subst (IsViable L) (front_more done piece k) v));
+  next = subst (λ (x : List ℕ). NextPart L x part) (sym (front done piece k)) (c.next (take k piece) part h.next);
 }
 
 pub dead_in : (L : Bounds) (R S : Text → Type 0) (done piece : List ℕ) (k m n : ℕ) (part : Part) → Context (IsMessageText L) R done m → Context (IsMessageText no_bounds) S done n → IsDead R S [] piece k part
     → IsWithin L.input (length done + k + 1) → IsAnswer L (done ++ piece) (refused (Dead (length done + k) part))
 dead_in L R S done piece k m n part c d h seen = (
   refused_in L R done piece k m part c h.refused seen,
-  λ v. h.anyway (d.out (take (k + 1) piece) (of_viable no_bounds (done ++ take (k + 1) piece) (subst (IsViable no_bounds) (front_more done piece k) v))),
+  λ v. h.anyway (d.out (take (k + 1) piece) (subst (IsViable no_bounds) (front_more done piece k) v)),
 )
 
 pub limit_in : (L : Bounds) (R S : Text → Type 0) (done piece : List ℕ) (k m n : ℕ) (part : Part) → Context (IsMessageText L) R done m → Context (IsMessageText no_bounds) S done n → IsLimit R S [] piece k part
     → IsWithin L.input (length done + k + 1) → IsAnswer L (done ++ piece) (refused (Limit (length done + k) part))
 limit_in L R S done piece k m n part c d h seen = (
   refused_in L R done piece k m part c h.refused seen,
-  subst (IsViable no_bounds) (sym (front_more done piece k)) (viable_of no_bounds (done ++ take (k + 1) piece) (d.into (take (k + 1) piece) h.anyway)),
+  subst (IsViable no_bounds) (sym (front_more done piece k)) (d.into (take (k + 1) piece) h.anyway),
 )
 
 pub ended_in : (L : Bounds) (R : Text → Type 0) (done piece : List ℕ) (n : ℕ) (part : Part) → Context (IsMessageText L) R done n → n ≤ length piece → IsNext R piece part → (IsText R piece → ⊥)
@@ -80,7 +53,7 @@ pub ended_in : (L : Bounds) (R : Text → Type 0) (done piece : List ℕ) (n : �
 ended_in L R done piece n part c enough next none seen = record {
   long = refl;
   seen = seen;
-  viable = viable_of L (done ++ piece) (c.into piece (next_becomes R piece part next));
+  viable = c.into piece (next_becomes R piece part next);
   unfinished = λ m o z h. none (c.text piece enough (of_spelled L m o z (done ++ piece) h));
-  next = next_of L (done ++ piece) part (c.next piece part next);
+  next = c.next piece part next;
 }

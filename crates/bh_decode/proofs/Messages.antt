@@ -9,16 +9,16 @@ use Rattle.bh_spec.specs.Bounds.{Bounds, IsWithin, no_bounds}
 use Rattle.bh_spec.specs.Messages.{Field, Control, Interim, Message, request, response}
 use Rattle.bh_spec.specs.Spelling.{framing}
 use Rattle.bh_spec.specs.Texts.{IsNumber}
-use Rattle.bh_spec.specs.Viable.{SpellsBytes}
+use Rattle.bh_spec.specs.Viable.{SpellsBytes, IsMessageText}
 use Rattle.bh_control.specs.Control.{ControlOf}
-use Rattle.bh_control.specs.Pieces.{IsText, Ends}
+use Rattle.bh_spec.specs.Pieces.{SomeOf, IsText, Ends}
 use Rattle.bh_decode.specs.declared.stop.Stop.{Stop}
 use Rattle.bh_decode.specs.declared.fault.Fault.{Fault}
 use Rattle.bh_decode.specs.declared.fault.Fault.TheVariants as faults
 use Rattle.bh_decode.specs.Contexts.{Context}
-use Rattle.bh_decode.specs.Grammar.{IsMessageText, IsFramed, IsAfterFraming, IsAfterStart, IsResponseText, AfterOf, FramedOf}
+use Rattle.bh_decode.specs.Grammar.{IsFramed, IsAfterFraming, IsAfterStart, IsResponseText, AfterOf, FramedOf}
 use Rattle.bh_decode.specs.Responses.{OpeningOf}
-use Rattle.bh_decode.specs.Stops.{SomeOf, Stops, StopsThing, fault_behind, AtStop}
+use Rattle.bh_decode.specs.Stops.{Stops, StopsThing, fault_behind, AtStop}
 use Rattle.bh_decode.proofs.Contexts.{SomeThen}
 use Rattle.bh_decode.proofs.Grammars.{message_framed, framed_message, framed_once, control_once}
 use Rattle.bh_decode.proofs.Phases.{behind_framing, behind_control, stops_then}

@@ -10,9 +10,9 @@ use Rattle.bh_spec.proofs.Numbers.{number_meets}
 use Rattle.bh_spec.proofs.Marks.{unmark, mark-append}
 use Rattle.bh_varint.specs.Step.{IsWhole, IsUnfinished}
 use Rattle.bh_varint.proofs.Reading.{whole_finished}
-use Rattle.bh_control.specs.Pieces.{IsText, CanBecome, IsNext, Ends, IsDead}
-use Rattle.bh_control.proofs.Pieces.{next_unfinished, refused_at}
-use Rattle.bh_decode.specs.Stops.{SomeOf, IsCutThing}
+use Rattle.bh_spec.specs.Pieces.{SomeOf, IsText, CanBecome, IsNext, Ends, IsDead}
+use Rattle.bh_spec.proofs.Pieces.{next_unfinished, refused_at}
+use Rattle.bh_decode.specs.Stops.{IsCutThing}
 use Rattle.bh_decode.specs.Numbers.{NumberOf}
 use Rattle.bh_decode.proofs.Contexts.{AreOnce, once_of}
 

@@ -13,9 +13,9 @@ use Rattle.bh_spec.proofs.Sections.{number_nonempty}
 use Rattle.bh_spec.proofs.Marks.{bytes_of-append}
 use Rattle.bh_model.specs.declared.informational.Interim as held
 use Rattle.bh_model.specs.Values.{interim_of, IsEnded, AreEnded}
-use Rattle.bh_model.specs.declared.field.Place.TheVariants.{Header}
+use Rattle.bh_model.specs.declared.field.Place.TheVariants.{Header, Trailer}
 use Rattle.bh_fields.specs.Sections.{SectionOf}
-use Rattle.bh_control.specs.Pieces.{IsText, Ends}
+use Rattle.bh_spec.specs.Pieces.{SomeOf, IsText, Ends}
 use Rattle.bh_control.specs.Statuses.{StatusOf}
 use Rattle.bh_decode.specs.declared.stop.Stop.{Stop}
 use Rattle.bh_decode.specs.declared.fault.Fault.{Fault}
@@ -23,17 +23,18 @@ use Rattle.bh_decode.specs.declared.fault.Fault.TheVariants as faults
 use Rattle.bh_decode.specs.declared.opening.ResponsePart.{ResponsePart}
 use Rattle.bh_decode.specs.declared.opening.ResponsePart.TheVariants as found
 use Rattle.bh_decode.specs.Responses.{ResponsePartIs, OpeningOf}
-use Rattle.bh_decode.specs.Grammar.{HeadersOf, IsResponseText, IsAfterStart, status_left, AfterStatus}
-use Rattle.bh_decode.specs.Stops.{SomeOf, Stops, StopsThing, stop_behind, fault_behind, AtStop}
+use Rattle.bh_decode.specs.Grammar.{IsResponseText, IsAfterStart, status_left, AfterStatus}
+use Rattle.bh_decode.specs.Stops.{Stops, StopsThing, stop_behind, fault_behind, AtStop}
 use Rattle.bh_decode.proofs.Contexts.{Context, context_here, context_on, SomeThen}
 use Rattle.bh_decode.proofs.Fronts.{split_more}
 use Rattle.bh_spec.proofs.Within.{zero_within}
-use Rattle.bh_decode.proofs.Grammars.{headers_once, status_once, one_more, one_before}
-use Rattle.bh_decode.proofs.Heads.{headers_same}
+use Rattle.bh_decode.proofs.Grammars.{section_once, status_once, one_more, one_before}
+use Rattle.bh_decode.proofs.Heads.{}
 use Rattle.bh_decode.proofs.Phases.{IsInterimRest, behind_final, behind_interim_status, behind_interim, stops_then}
 use Rattle.bh_decode.proofs.Stopped.{Same, stops_same, thing_same}
-use Rattle.bh_decode.proofs.Following.{headers_anyway, status_anyway, after_status, after_interim, one_left}
+use Rattle.bh_decode.proofs.Following.{sections_anyway, status_anyway, after_status, after_interim, one_left}
 use Rattle.bh_decode.proofs.Tails.{stops_there}
+use Rattle.bh_model.specs.declared.field.Place.{Place}
 
 response_same : (L : Bounds) (form : Form) (k : ℕ) → IsWithin L.interims k → Same (SomeThen (StatusOf (status_left L.interims k)) (AfterStatus L form k)) (IsResponseText L form k)
 response_same L form k within = record { on = one_before L form k within; back = one_more L form k }
@@ -54,10 +55,8 @@ pub interim_stop : (L : Bounds) (form : Form) (k status : ℕ) (bytes : List ℕ
 interim_stop L form k status bytes taken stop within small read h =
     let next = one_left L.interims k status read.whole.text read.whole.spelled small in
     let here : Stops (IsInterimRest L form k) (IsInterimRest no_bounds form k) (drop taken bytes) stop =
-    stops_then (HeadersOf L form) (λ (fs : List Field). IsResponseText L form (suc k)) (HeadersOf no_bounds form) (λ (fs : List Field). IsResponseText no_bounds form (suc k))
-    (headers_once L form) (headers_once no_bounds form) (after_interim L form k next) (after_interim no_bounds form k tt) (headers_anyway L form) (drop taken bytes) stop
-    (thing_same (SomeOf (SectionOf L form Header)) (SomeOf (HeadersOf L form)) (SomeOf (SectionOf no_bounds form Header)) (SomeOf (HeadersOf no_bounds form))
-    (headers_same L form) (headers_same no_bounds form) (drop taken bytes) stop h) in
+    stops_then (SectionOf L form Header) (λ (fs : List Field). IsResponseText L form (suc k)) (SectionOf no_bounds form Header) (λ (fs : List Field). IsResponseText no_bounds form (suc k))
+    (section_once L form Header) (section_once no_bounds form Header) (after_interim L form k next) (after_interim no_bounds form k tt) (sections_anyway L form Header) (drop taken bytes) stop h in
     stops_there (IsResponseText L form k) (IsInterimRest L form k) (IsResponseText no_bounds form k) (IsInterimRest no_bounds form k) bytes taken 0 0 stop read.within
     (behind_interim_status L form k status (take taken bytes) within small read.whole)
     (behind_interim_status no_bounds form k status (take taken bytes) tt small (status_text_anyway (status_left L.interims k) status (take taken bytes) read.whole)) (omega arith) here
@@ -102,7 +101,7 @@ behind_one L form k status fields bytes within small h =
     subst (λ (z : List ℕ). Context (IsResponseText L form k) (IsResponseText L form (suc k)) z 0) joined
     (context_on (IsResponseText L form k) (IsInterimRest L form k) (IsResponseText L form (suc k)) (bytes_of x) (bytes_of y) 0 0 (omega arith)
     (behind_interim_status L form k status (bytes_of x) within small (record { text = x; spelled = h.spelled.2; same = refl }))
-    (behind_interim L form k fields (bytes_of y) (record { text = y; spelled = record { valid = h.spelled.3.1; spelled = h.spelled.3.0 }; same = refl })))
+    (behind_interim L form k fields (bytes_of y) (record { text = y; spelled = h.spelled.3; same = refl })))
 
 one_anyway : (L : Bounds) (form : Form) (k status : ℕ) (fields : List Field) (bytes : List ℕ) → IsText (StatusOf (status_left L.interims k) status then SectionOf L form Header fields) bytes
     → IsText (StatusOf None status then SectionOf no_bounds form Header fields) bytes
@@ -112,7 +111,7 @@ one_anyway L form k status fields bytes h = record {
     h.spelled.0,
     h.spelled.1,
     status_anyway (status_left L.interims k) status h.spelled.0 h.spelled.2,
-    ((headers_anyway L form fields h.spelled.1 (record { valid = h.spelled.3.1; spelled = h.spelled.3.0 })).spelled, h.spelled.3.1),
+    sections_anyway L form Header fields h.spelled.1 h.spelled.3,
     h.spelled.4,
   );
   same = h.same;

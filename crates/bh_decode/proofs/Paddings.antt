@@ -4,8 +4,8 @@ use Rattle.std.proofs.lemmas.List.Elements.{All-replicate, All-head, All-tail}
 use Rattle.bh_spec.specs.declared.Part.TheVariants as parts
 use Rattle.bh_spec.specs.Texts.{mark, bytes_of, IsRun}
 use Rattle.bh_spec.proofs.Marks.{unmark, mark-append}
-use Rattle.bh_control.specs.Pieces.{IsText, CanBecome, IsNext, IsDead}
-use Rattle.bh_control.proofs.Pieces.{next_taken, refused_at}
+use Rattle.bh_spec.specs.Pieces.{IsText, CanBecome, IsNext, IsDead}
+use Rattle.bh_spec.proofs.Pieces.{next_taken, refused_at}
 use Rattle.bh_decode.specs.Grammar.{IsPaddingText}
 
 zeros_more : (n : ℕ) → let zeros : List ℕ = replicate n 0 in zeros ++ 0 ∷ [] ≡ replicate (n + 1) 0

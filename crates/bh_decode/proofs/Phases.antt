@@ -8,13 +8,17 @@ use Rattle.bh_spec.specs.Messages.{Field, Control}
 use Rattle.bh_spec.specs.Texts.{Text}
 use Rattle.bh_control.specs.Control.{ControlOf}
 use Rattle.bh_control.specs.Statuses.{StatusOf}
-use Rattle.bh_control.specs.Pieces.{IsText}
+use Rattle.bh_spec.specs.Pieces.{SomeOf, IsText}
 use Rattle.bh_decode.specs.declared.stop.Stop.{Stop}
 use Rattle.bh_decode.specs.declared.stop.Stop.TheVariants.{Dead, Limit, Ended}
-use Rattle.bh_decode.specs.Stops.{SomeOf, Stops, StopsThing}
-use Rattle.bh_decode.specs.Grammar.{IsMessageText, HeadersOf, IsRestText, IsAfterStart, IsResponseText, IsAfterFraming, IsFramed, status_left, AfterStatus}
+use Rattle.bh_decode.specs.Stops.{Stops, StopsThing}
+use Rattle.bh_spec.specs.Viable.{IsMessageText}
+use Rattle.bh_decode.specs.Grammar.{IsRestText, IsAfterStart, IsResponseText, IsAfterFraming, IsFramed, status_left, AfterStatus}
 use Rattle.bh_decode.proofs.Contexts.{Context, context_on, context_behind, context_same, AreOnce, SomeThen, Follows, next_then, dead_then, limit_then, unfinished_then}
-use Rattle.bh_decode.proofs.Grammars.{message_framed, framed_message, framed_once, control_once, headers_once, status_once, one_more, one_before}
+use Rattle.bh_decode.proofs.Grammars.{message_framed, framed_message, framed_once, control_once, section_once, status_once, one_more, one_before}
+use Rattle.bh_model.specs.declared.field.Place.TheVariants.{Header, Trailer}
+use Rattle.bh_model.specs.declared.field.Place.{Place}
+use Rattle.bh_fields.specs.Sections.{SectionOf}
 
 -- ---- behind what was read
 
@@ -27,12 +31,12 @@ behind_framing L kind form bytes h =
 pub behind_control : (L : Bounds) (form : Form) (c : Control) (bytes : List ℕ) → IsText (ControlOf L c) bytes → Context (IsAfterFraming L (Request, form)) (IsAfterStart L form) bytes 0
 behind_control L form c bytes h = context_behind (ControlOf L) (λ (d : Control). IsAfterStart L form) (control_once L) c bytes h
 
-pub behind_headers : (L : Bounds) (form : Form) (fields : List Field) (bytes : List ℕ) → IsText (HeadersOf L form fields) bytes → Context (IsAfterStart L form) (IsRestText L form) bytes 0
-behind_headers L form fields bytes h = context_behind (HeadersOf L form) (λ (fs : List Field). IsRestText L form) (headers_once L form) fields bytes h
+pub behind_headers : (L : Bounds) (form : Form) (fields : List Field) (bytes : List ℕ) → IsText (SectionOf L form Header fields) bytes → Context (IsAfterStart L form) (IsRestText L form) bytes 0
+behind_headers L form fields bytes h = context_behind (SectionOf L form Header) (λ (fs : List Field). IsRestText L form) (section_once L form Header) fields bytes h
 
 -- inside an interim response: its section, and then the response
 abbrev pub IsInterimRest : Bounds → Form → ℕ → Text → Type 0
-IsInterimRest L form k t = SomeThen (HeadersOf L form) (λ (fs : List Field). IsResponseText L form (suc k)) t
+IsInterimRest L form k t = SomeThen (SectionOf L form Header) (λ (fs : List Field). IsResponseText L form (suc k)) t
 
 behind_status : (L : Bounds) (form : Form) (k status : ℕ) (bytes : List ℕ) → IsWithin L.interims k → IsText (StatusOf (status_left L.interims k) status) bytes
     → Context (IsResponseText L form k) (AfterStatus L form k status) bytes 0
@@ -65,8 +69,8 @@ behind_interim_status L form k status bytes within small h =
     to t (inl s) = s.1
     to t (inr s) = absurd (omega (arith, s.0))
 
-pub behind_interim : (L : Bounds) (form : Form) (k : ℕ) (fields : List Field) (bytes : List ℕ) → IsText (HeadersOf L form fields) bytes → Context (IsInterimRest L form k) (IsResponseText L form (suc k)) bytes 0
-behind_interim L form k fields bytes h = context_behind (HeadersOf L form) (λ (fs : List Field). IsResponseText L form (suc k)) (headers_once L form) fields bytes h
+pub behind_interim : (L : Bounds) (form : Form) (k : ℕ) (fields : List Field) (bytes : List ℕ) → IsText (SectionOf L form Header fields) bytes → Context (IsInterimRest L form k) (IsResponseText L form (suc k)) bytes 0
+behind_interim L form k fields bytes h = context_behind (SectionOf L form Header) (λ (fs : List Field). IsResponseText L form (suc k)) (section_once L form Header) fields bytes h
 
 -- ---- what stops inside a thing stops inside what begins with it
 

@@ -1,20 +1,13 @@
 -- Prefixes of viable bytes.
-use Rattle.std.proofs.Common.{◌≡◌, ◌≤◌, ◌+◌, ◌-◌, ℕ, List, ◌++◌, take, drop, sym, ap, subst, ◌∙◌, append_assoc, take-append-drop, arith}
+use Rattle.std.proofs.Common.{◌≡◌, ◌≤◌, ◌+◌, ◌-◌, ℕ, List, ◌++◌, take, drop, sym, ap, subst, ◌∙◌, refl, take-append-drop, arith}
 use Rattle.std.proofs.Math.Seq.{take-add}
 use Rattle.bh_spec.specs.Bounds.{Bounds}
-use Rattle.bh_spec.specs.Viable.{IsViable}
+use Rattle.bh_spec.specs.Viable.{IsViable, IsMessageText}
+use Rattle.bh_spec.proofs.Pieces.{front_becomes}
 use Rattle.bh_decode.specs.Laws.{PrefixesAreViable}
 
 pub prefixes_are_viable : PrefixesAreViable
-prefixes_are_viable L front back h = record {
-  message = h.message;
-  omitted = h.omitted;
-  padding = h.padding;
-  text = h.text;
-  after = back ++ h.after;
-  spelled = h.spelled;
-  begins = h.begins ∙ append_assoc front back h.after;
-}
+prefixes_are_viable L front back h = front_becomes (IsMessageText L) front back (front ++ back) refl h
 
 -- the first bytes of the first bytes
 take_less : (m n : ℕ) (bytes : List ℕ) → m ≤ n → take n bytes ≡ take m bytes ++ take (n - m) (drop m bytes)

@@ -13,10 +13,13 @@ use Rattle.bh_spec.specs.Texts.{Text, mark}
 use Rattle.bh_spec.specs.Tails.{IsBody, IsTail}
 use Rattle.bh_spec.proofs.Sections.{section_agrees, body_agrees}
 use Rattle.bh_spec.proofs.Whole.{trailers_named}
-use Rattle.bh_control.specs.Pieces.{IsText}
-use Rattle.bh_decode.specs.Grammar.{IsRestText, TrailersOf, IsPaddingText, IsEndText, IsAfterContent, BodyOf}
+use Rattle.bh_spec.specs.Pieces.{IsText}
+use Rattle.bh_decode.specs.Grammar.{IsRestText, IsPaddingText, IsEndText, IsAfterContent, BodyOf}
 use Rattle.bh_decode.proofs.Contexts.{Context, context_on, context_behind, context_same, context_or_nothing, OrNothing, AreOnce, SomeThen}
-use Rattle.bh_decode.proofs.Grammars.{some_headers}
+use Rattle.bh_decode.proofs.Grammars.{some_headers, section_once}
+use Rattle.bh_model.specs.declared.field.Place.TheVariants.{Header, Trailer}
+use Rattle.bh_model.specs.declared.field.Place.{Place}
+use Rattle.bh_fields.specs.Sections.{SectionOf}
 
 -- content, and what stands behind it
 abbrev pub IsBodyRest : Bounds → Form → Text → Type 0
@@ -29,7 +32,7 @@ rest_apart L form t h = by_omission h.omitted h.spelled
     body x s = record { bytes = h.bytes; spelled = s }
 
     by_omission : (o : Omitted) → IsTail L form h.content h.trailers o h.padding t → OrNothing (IsBodyRest L form) t
-    by_omission Nothing s = inr (h.content, (s.0, s.1, body s.0 s.2, inr (h.trailers, (s.3.0, s.3.1, record { valid = h.valid; spelled = s.3.2 }, (h.padding, s.3.3), s.3.4)), s.4))
+    by_omission Nothing s = inr (h.content, (s.0, s.1, body s.0 s.2, inr (h.trailers, (s.3.0, s.3.1, (s.3.2, h.valid), (h.padding, s.3.3), s.3.4)), s.4))
     by_omission Trailers s = inr (h.content, (t, [], body t s.2, inl refl, sym (append-nil t)))
     by_omission Both s = inl s.3
 
@@ -58,15 +61,12 @@ rest_together L form t (inr (content, (x, y, body, inr (fields, (p, q, trailers,
   omitted = Nothing;
   padding = padding.0;
   bytes = body.bytes;
-  valid = trailers.valid;
-  spelled = (x, y, body.spelled, (p, q, trailers.spelled, padding.1, g), e);
+  valid = trailers.1;
+  spelled = (x, y, body.spelled, (p, q, trailers.0, padding.1, g), e);
 }
 
 pub body_once : (form : Form) → AreOnce (BodyOf form)
 body_once form c d t u a b = body_agrees form c d t u a.spelled b.spelled
-
-pub trailers_once : (L : Bounds) (form : Form) → AreOnce (TrailersOf L form)
-trailers_once L form fs gs t u a b = section_agrees L L form fs gs (trailers_named fs a.valid) (trailers_named gs b.valid) t u a.spelled b.spelled
 
 pub some_body : (form : Form) → (t : Text) × BodyOf form [] t
 some_body Known = (
@@ -88,8 +88,8 @@ rest_here L form =
 pub behind_body : (L : Bounds) (form : Form) (content bytes : List ℕ) → IsText (BodyOf form content) bytes → Context (IsBodyRest L form) (IsAfterContent L form) bytes 0
 behind_body L form content bytes h = context_behind (BodyOf form) (λ (c : List ℕ). IsAfterContent L form) (body_once form) content bytes h
 
-some_trailers : (L : Bounds) (form : Form) → (t : Text) × TrailersOf L form [] t
-some_trailers L form = let h = some_headers L form in (h.0, record { valid = All-nil IsRegularField; spelled = h.1.spelled })
+some_trailers : (L : Bounds) (form : Form) → (t : Text) × SectionOf L form Trailer [] t
+some_trailers L form = let h = some_headers L form in (h.0, (h.1.0, All-nil IsRegularField))
 
 pub some_padding : IsPaddingText []
 some_padding = (0, refl)
@@ -99,5 +99,5 @@ behind_content L form =
     let h = some_trailers L form in
     context_or_nothing (IsEndText L form) (h.0 ++ []) ([], (h.0, [], h.1, some_padding, refl))
 
-pub behind_trailers : (L : Bounds) (form : Form) (fields : List Field) (bytes : List ℕ) → IsText (TrailersOf L form fields) bytes → Context (IsEndText L form) IsPaddingText bytes 0
-behind_trailers L form fields bytes h = context_behind (TrailersOf L form) (λ (fs : List Field). IsPaddingText) (trailers_once L form) fields bytes h
+pub behind_trailers : (L : Bounds) (form : Form) (fields : List Field) (bytes : List ℕ) → IsText (SectionOf L form Trailer fields) bytes → Context (IsEndText L form) IsPaddingText bytes 0
+behind_trailers L form fields bytes h = context_behind (SectionOf L form Trailer) (λ (fs : List Field). IsPaddingText) (section_once L form Trailer) fields bytes h

@@ -2,6 +2,7 @@
 use Rattle.std.proofs.Common.{◌≡◌, ◌<◌, ◌≤◌, ◌+◌, ◌-◌, ℕ, suc, List, [], ◌++◌, length, take, drop, replicate, All, refl, sym, ap, subst, ◌∙◌, arith}
 use Rattle.std.proofs.lemmas.List.{length-append, length-take, length-map, length-replicate}
 use Rattle.std.proofs.lemmas.List.Elements.{All-replicate, All-append, All-take}
+use Rattle.bh_spec.specs.Bytes.{AreBytes}
 use Rattle.bh_spec.specs.declared.Part.{Part}
 use Rattle.bh_spec.specs.declared.Part.TheVariants as parts
 use Rattle.bh_spec.specs.Integers.{limit_of}
@@ -14,12 +15,12 @@ use Rattle.bh_spec.proofs.Sections.{number_nonempty}
 use Rattle.bh_spec.proofs.Agreement.{agree_string}
 use Rattle.bh_spec.proofs.Meeting.{Meets, meets_mark}
 use Rattle.bh_spec.proofs.Marks.{unmark, mark-append, length-mark}
-use Rattle.bh_control.specs.Pieces.{IsText, IsNext, Ends}
-use Rattle.bh_control.proofs.Pieces.{IsOnce, next_unfinished}
+use Rattle.bh_spec.specs.Pieces.{SomeOf, IsText, IsNext, Ends}
+use Rattle.bh_spec.proofs.Pieces.{IsOnce, next_unfinished}
 use Rattle.bh_decode.specs.declared.stop.Stop.{Stop}
 use Rattle.bh_decode.specs.Grammar.{ContentOf, RunOf, BodyOf}
 use Rattle.bh_decode.specs.Numbers.{NumberOf}
-use Rattle.bh_decode.specs.Stops.{SomeOf, IsCutThing, StopsThing}
+use Rattle.bh_decode.specs.Stops.{IsCutThing, StopsThing}
 use Rattle.bh_decode.proofs.Contexts.{AreOnce, once_of, SomeThen, Follows, context_behind}
 use Rattle.bh_decode.proofs.Fronts.{ends_same, ends_then}
 use Rattle.bh_decode.proofs.Numbers.{numbers_once}
@@ -32,7 +33,7 @@ content_once long c d t u a b =
     let same : length c ≡ length d = a.length_is ∙ sym b.length_is in
     subst (λ (x : Text). Meets ⊥ (c ≡ d) x u) (sym a.spelled) (subst (λ (y : Text). Meets ⊥ (c ≡ d) (mark parts.Content c) y) (sym b.spelled) (meets_mark parts.Content c d same))
 
-pub content_whole : (bytes : List ℕ) (long : ℕ) → All (λ b. b < 256) bytes → long ≤ length bytes → Ends (ContentOf long (take long bytes)) [] bytes long
+pub content_whole : (bytes : List ℕ) (long : ℕ) → AreBytes bytes → long ≤ length bytes → Ends (ContentOf long (take long bytes)) [] bytes long
 content_whole bytes long small enough = record {
   within = enough;
   whole = record {
@@ -43,7 +44,7 @@ content_whole bytes long small enough = record {
 }
 
 -- some content goes on behind the bytes with zeros
-content_next : (bytes : List ℕ) (long missing : ℕ) → All (λ b. b < 256) bytes → length bytes + suc missing ≡ long → IsNext (SomeOf (ContentOf long)) bytes parts.Content
+content_next : (bytes : List ℕ) (long missing : ℕ) → AreBytes bytes → length bytes + suc missing ≡ long → IsNext (SomeOf (ContentOf long)) bytes parts.Content
 content_next bytes long missing small e =
     let zeros : List ℕ = replicate (suc missing) 0 in
     record {
@@ -64,7 +65,7 @@ content_next bytes long missing small e =
 missing_of : (m n : ℕ) → m < n → (k : ℕ) × (m + suc k ≡ n)
 missing_of m n h = (n - m - 1, omega (arith, h))
 
-pub content_cut : (bytes : List ℕ) (long : ℕ) → All (λ b. b < 256) bytes → length bytes < long → IsCutThing (SomeOf (ContentOf long)) bytes parts.Content
+pub content_cut : (bytes : List ℕ) (long : ℕ) → AreBytes bytes → length bytes < long → IsCutThing (SomeOf (ContentOf long)) bytes parts.Content
 content_cut bytes long small short =
     let missing = missing_of (length bytes) long short in
     let next = content_next bytes long missing.0 small missing.1 in

@@ -7,12 +7,12 @@ use Rattle.bh_spec.specs.Bounds.{Bounds, IsWithin, no_bounds}
 use Rattle.bh_spec.specs.Texts.{Text}
 use Rattle.bh_spec.specs.Answers.{refused, IsAnswer}
 use Rattle.bh_spec.proofs.Within.{within_less}
-use Rattle.bh_control.specs.Pieces.{CanBecome, IsNext, IsRefused}
+use Rattle.bh_spec.specs.Pieces.{SomeOf, CanBecome, IsNext, IsRefused}
 use Rattle.bh_decode.specs.declared.stop.Stop.{Stop}
 use Rattle.bh_decode.specs.declared.stop.Stop.TheVariants.{Dead, Limit, Ended}
-use Rattle.bh_decode.specs.Grammar.{IsMessageText}
-use Rattle.bh_decode.specs.Stops.{SomeOf, StopsThing, Stops, refusal_of, stop_behind}
-use Rattle.bh_control.proofs.Pieces.{IsOnce, next_unfinished}
+use Rattle.bh_spec.specs.Viable.{IsMessageText}
+use Rattle.bh_decode.specs.Stops.{StopsThing, Stops, refusal_of, stop_behind}
+use Rattle.bh_spec.proofs.Pieces.{IsOnce, next_unfinished}
 use Rattle.bh_decode.proofs.Contexts.{Context, context_here, AreOnce, SomeThen, Follows, next_then, dead_then, limit_then}
 use Rattle.bh_decode.proofs.Lifted.{front, front_more, dead_in, limit_in, ended_in}
 

@@ -11,21 +11,23 @@ use Rattle.bh_spec.specs.Messages.{Field, IsRegularField}
 use Rattle.bh_spec.specs.Texts.{Text, IsRun, ◌then◌}
 use Rattle.bh_spec.proofs.Sections.{body_nonempty}
 use Rattle.bh_spec.proofs.Marks.{bytes_of-append}
-use Rattle.bh_model.specs.declared.field.Place.TheVariants.{Trailer}
+use Rattle.bh_model.specs.declared.field.Place.TheVariants.{Trailer, Header}
 use Rattle.bh_fields.specs.Sections.{SectionOf}
-use Rattle.bh_control.specs.Pieces.{IsText, Ends}
+use Rattle.bh_spec.specs.Pieces.{SomeOf, IsText, Ends}
 use Rattle.bh_decode.specs.declared.stop.Stop.{Stop}
 use Rattle.bh_decode.specs.declared.stop.Stop.TheVariants as stops
 use Rattle.bh_decode.specs.declared.fault.Fault.{Fault}
 use Rattle.bh_decode.specs.declared.fault.Fault.TheVariants as faults
-use Rattle.bh_decode.specs.Grammar.{TrailersOf, IsPaddingText, IsEndText, IsAfterContent, IsRestText, BodyOf, EndOf, RestOf}
-use Rattle.bh_decode.specs.Stops.{SomeOf, Stops, StopsThing, stop_behind, fault_behind, AtStop, IsStopWithin}
+use Rattle.bh_decode.specs.Grammar.{IsPaddingText, IsEndText, IsAfterContent, IsRestText, BodyOf, EndOf, RestOf}
+use Rattle.bh_decode.specs.Stops.{Stops, StopsThing, stop_behind, fault_behind, AtStop, IsStopWithin}
 use Rattle.bh_decode.proofs.Contexts.{Context, context_on}
 use Rattle.bh_decode.proofs.Fronts.{length_front}
 use Rattle.bh_decode.proofs.Phases.{stops_then}
 use Rattle.bh_decode.proofs.Stopped.{Same, thing_same, stops_behind}
-use Rattle.bh_decode.proofs.Rests.{IsBodyRest, body_once, trailers_once, rest_here, behind_body, behind_content, behind_trailers}
-use Rattle.bh_decode.proofs.Following.{trailers_anyway, after_body, after_trailers}
+use Rattle.bh_decode.proofs.Rests.{IsBodyRest, body_once, rest_here, behind_body, behind_content, behind_trailers}
+use Rattle.bh_decode.proofs.Following.{sections_anyway, after_body, after_trailers}
+use Rattle.bh_model.specs.declared.field.Place.{Place}
+use Rattle.bh_decode.proofs.Grammars.{section_once}
 
 -- ---- a stop behind what was read
 
@@ -43,32 +45,20 @@ stop_near R S bytes taken (stops.Ended part) within short h = tt
 
 -- ---- trailer section and padding
 
-trailers_same : (L : Bounds) (form : Form) → Same (SomeOf (SectionOf L form Trailer)) (SomeOf (TrailersOf L form))
-trailers_same L form = record {
-  on = λ t h. (h.0, record { valid = h.1.1; spelled = h.1.0 });
-  back = λ t h. (h.0, (h.1.spelled, h.1.valid));
-}
-
 pub trailers_stop : (L : Bounds) (form : Form) (bytes : List ℕ) (stop : Stop) → StopsThing (SomeOf (SectionOf L form Trailer)) (SomeOf (SectionOf no_bounds form Trailer)) bytes stop
     → Stops (IsEndText L form) (IsEndText no_bounds form) bytes stop
 trailers_stop L form bytes stop h =
-    stops_then (TrailersOf L form) (λ (fields : List Field). IsPaddingText) (TrailersOf no_bounds form) (λ (fields : List Field). IsPaddingText)
-    (trailers_once L form) (trailers_once no_bounds form) (after_trailers L form) (after_trailers no_bounds form) (trailers_anyway L form) bytes stop
-    (thing_same (SomeOf (SectionOf L form Trailer)) (SomeOf (TrailersOf L form)) (SomeOf (SectionOf no_bounds form Trailer)) (SomeOf (TrailersOf no_bounds form))
-    (trailers_same L form) (trailers_same no_bounds form) bytes stop h)
+    stops_then (SectionOf L form Trailer) (λ (fields : List Field). IsPaddingText) (SectionOf no_bounds form Trailer) (λ (fields : List Field). IsPaddingText)
+    (section_once L form Trailer) (section_once no_bounds form Trailer) (after_trailers L form) (after_trailers no_bounds form) (sections_anyway L form Trailer) bytes stop h
 
-trailers_text : (L : Bounds) (form : Form) (fields : List Field) (bytes : List ℕ) → IsText (SectionOf L form Trailer fields) bytes → IsText (TrailersOf L form fields) bytes
-trailers_text L form fields bytes h = record { text = h.text; spelled = record { valid = h.spelled.1; spelled = h.spelled.0 }; same = h.same }
-
-anyway_text : (L : Bounds) (form : Form) (fields : List Field) (bytes : List ℕ) → IsText (TrailersOf L form fields) bytes → IsText (TrailersOf no_bounds form fields) bytes
-anyway_text L form fields bytes h = record { text = h.text; spelled = trailers_anyway L form fields h.text h.spelled; same = h.same }
+anyway_text : (L : Bounds) (form : Form) (fields : List Field) (bytes : List ℕ) → IsText (SectionOf L form Trailer fields) bytes → IsText (SectionOf no_bounds form Trailer fields) bytes
+anyway_text L form fields bytes h = record { text = h.text; spelled = sections_anyway L form Trailer fields h.text h.spelled; same = h.same }
 
 pub padding_stop : (L : Bounds) (form : Form) (fields : List Field) (bytes : List ℕ) (taken : ℕ) (stop : Stop) → Ends (SectionOf L form Trailer fields) [] bytes taken
     → Stops IsPaddingText IsPaddingText (drop taken bytes) stop → Stops (IsEndText L form) (IsEndText no_bounds form) bytes (stop_behind taken stop)
 padding_stop L form fields bytes taken stop section h =
-    let text = trailers_text L form fields (take taken bytes) section.whole in
     stops_there (IsEndText L form) IsPaddingText (IsEndText no_bounds form) IsPaddingText bytes taken 0 0 stop section.within
-    (behind_trailers L form fields (take taken bytes) text) (behind_trailers no_bounds form fields (take taken bytes) (anyway_text L form fields (take taken bytes) text)) (omega arith) h
+    (behind_trailers L form fields (take taken bytes) section.whole) (behind_trailers no_bounds form fields (take taken bytes) (anyway_text L form fields (take taken bytes) section.whole)) (omega arith) h
 
 -- two texts, one behind the other
 pub both_texts : (R S : Text → Type 0) (bytes : List ℕ) (taken : ℕ) → Ends R [] bytes taken → IsText S (drop taken bytes) → IsText (R then S) bytes

@@ -2,7 +2,7 @@
 use Rattle.std.specs.Prelude.{ℕ, ◌≤◌, List, ◌++◌, length}
 use Rattle.bh_spec.specs.declared.Part.{Part}
 use Rattle.bh_spec.specs.Texts.{Text}
-use Rattle.bh_control.specs.Pieces.{IsText, CanBecome, IsNext}
+use Rattle.bh_spec.specs.Pieces.{IsText, CanBecome, IsNext}
 
 -- Behind the bytes done, the rest of a text of M is a text of R, where the rest has so many bytes at least.
 pub record Context (M R : Text → Type 0) (done : List ℕ) (least : ℕ) : Type 0 where

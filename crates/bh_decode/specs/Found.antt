@@ -4,7 +4,7 @@ use Rattle.bh_spec.specs.declared.Kind.{Kind}
 use Rattle.bh_spec.specs.declared.Form.{Form}
 use Rattle.bh_spec.specs.Bounds.{Bounds}
 use Rattle.bh_model.specs.Values.{interim_of}
-use Rattle.bh_control.specs.Pieces.{IsText, Ends}
+use Rattle.bh_spec.specs.Pieces.{IsText, Ends}
 use Rattle.bh_decode.specs.declared.head.AfterControl.{AfterControl}
 use Rattle.bh_decode.specs.declared.opening.Opening.{Opening}
 use Rattle.bh_decode.specs.declared.tail.Tail.{Tail}

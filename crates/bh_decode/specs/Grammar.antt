@@ -1,5 +1,6 @@
 -- A message from left to right: what may stand behind each of its parts.
 use Rattle.std.specs.Prelude.{ℕ, suc, ◌≡◌, ◌<◌, ◌≤◌, ◌⊎◌, ◌+◌, ◌-◌, List, [], length, All, Option, Some, None, replicate}
+use Rattle.bh_spec.specs.Bytes.{AreBytes}
 use Rattle.bh_spec.specs.declared.Part.{Part}
 use Rattle.bh_spec.specs.declared.Part.TheVariants as parts
 use Rattle.bh_spec.specs.declared.Form.{Form}
@@ -12,16 +13,9 @@ use Rattle.bh_spec.specs.Texts.{Text, IsNumber, IsRun, ◌then◌, AreEach, IsSt
 use Rattle.bh_spec.specs.Sections.{IsSection}
 use Rattle.bh_spec.specs.Tails.{IsBody, IsTail}
 use Rattle.bh_spec.specs.Spelling.{IsInterimText, IsStartText, framing, Spells}
+use Rattle.bh_model.specs.declared.field.Place.TheVariants.{Header, Trailer}
+use Rattle.bh_fields.specs.Sections.{SectionOf}
 use Rattle.bh_control.specs.Control.{ControlOf}
-
--- a text of some message, within the limits
-abbrev pub IsMessageText : Bounds → Text → Type 0
-IsMessageText L t = (m : Message) × (omitted : Omitted) × (padding : ℕ) × Spells L m omitted padding t
-
--- a header section of these fields
-pub record HeadersOf (L : Bounds) (form : Form) (fields : List Field) (t : Text) : Type 0 where
-  pub valid : AreHeaders fields
-  pub spelled : IsSection L form fields t
 
 -- the content, the trailer section and the padding, as far as they aren't left out
 pub record IsRestText (L : Bounds) (form : Form) (t : Text) : Type 0 where
@@ -29,13 +23,13 @@ pub record IsRestText (L : Bounds) (form : Form) (t : Text) : Type 0 where
   pub trailers : List Field
   pub omitted : Omitted
   pub padding : ℕ
-  pub bytes : All (λ byte. byte < 256) content
+  pub bytes : AreBytes content
   pub valid : AreTrailers trailers
   pub spelled : IsTail L form content trailers omitted padding t
 
 -- behind the control data: the header section, and then the rest
 abbrev pub IsAfterStart : Bounds → Form → Text → Type 0
-IsAfterStart L form t = (fields : List Field) × (HeadersOf L form fields then IsRestText L form) t
+IsAfterStart L form t = (fields : List Field) × (SectionOf L form Header fields then IsRestText L form) t
 
 -- behind so many interim responses: more of them, the status, and what stands behind it
 pub record IsResponseText (L : Bounds) (form : Form) (before : ℕ) (t : Text) : Type 0 where
@@ -63,13 +57,8 @@ status_left (Some most) before = Some (most - before)
 -- behind a status, with so many interim responses before it: the section of an interim response and then the same again; or
 -- what stands behind the status of a final response
 abbrev pub AfterStatus : Bounds → Form → ℕ → ℕ → Text → Type 0
-AfterStatus L form before status t = ((status < 200) × ((fields : List Field) × (HeadersOf L form fields then IsResponseText L form (suc before)) t))
+AfterStatus L form before status t = ((status < 200) × ((fields : List Field) × (SectionOf L form Header fields then IsResponseText L form (suc before)) t))
     ⊎ ((200 ≤ status) × IsAfterStart L form t)
-
--- a trailer section of these fields
-pub record TrailersOf (L : Bounds) (form : Form) (fields : List Field) (t : Text) : Type 0 where
-  pub valid : AreTrailers fields
-  pub spelled : IsSection L form fields t
 
 -- zeros to the end
 abbrev pub IsPaddingText : Text → Type 0
@@ -77,7 +66,7 @@ IsPaddingText t = (padding : ℕ) × IsRun parts.Padding (replicate padding 0) t
 
 -- a trailer section, and then padding
 abbrev pub IsEndText : Bounds → Form → Text → Type 0
-IsEndText L form t = (fields : List Field) × (TrailersOf L form fields then IsPaddingText) t
+IsEndText L form t = (fields : List Field) × (SectionOf L form Trailer fields then IsPaddingText) t
 
 -- behind the content: nothing, or a trailer section and padding
 abbrev pub IsAfterContent : Bounds → Form → Text → Type 0
@@ -90,7 +79,7 @@ pub record EndOf (L : Bounds) (form : Form) (fields : List Field) (padding : ℕ
 
 -- this content, trailer section, omission and padding
 pub record RestOf (L : Bounds) (form : Form) (content : List ℕ) (trailers : List Field) (omitted : Omitted) (padding : ℕ) (t : Text) : Type 0 where
-  pub bytes : All (λ byte. byte < 256) content
+  pub bytes : AreBytes content
   pub valid : AreTrailers trailers
   pub spelled : IsTail L form content trailers omitted padding t
 
@@ -108,15 +97,15 @@ pub record FramedOf (L : Bounds) (kind : Kind) (form : Form) (m : Message) (omit
 -- so many bytes of content
 pub record ContentOf (long : ℕ) (content : List ℕ) (t : Text) : Type 0 where
   pub length_is : length content ≡ long
-  pub bytes : All (λ byte. byte < 256) content
+  pub bytes : AreBytes content
   pub spelled : IsRun parts.Content content t
 
 -- a length, and so many bytes of content
 pub record RunOf (long : Part) (content : List ℕ) (t : Text) : Type 0 where
-  pub bytes : All (λ byte. byte < 256) content
+  pub bytes : AreBytes content
   pub spelled : IsString long parts.Content content t
 
 -- the content, as the form of the message spells it
 pub record BodyOf (form : Form) (content : List ℕ) (t : Text) : Type 0 where
-  pub bytes : All (λ byte. byte < 256) content
+  pub bytes : AreBytes content
   pub spelled : IsBody form content t

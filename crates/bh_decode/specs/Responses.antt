@@ -8,7 +8,7 @@ use Rattle.bh_spec.specs.Texts.{Text, IsNumber, ◌then◌, AreEach}
 use Rattle.bh_spec.specs.Spelling.{IsInterimText}
 use Rattle.bh_model.specs.declared.field.Place.TheVariants.{Header}
 use Rattle.bh_fields.specs.Sections.{SectionOf}
-use Rattle.bh_control.specs.Pieces.{Ends}
+use Rattle.bh_spec.specs.Pieces.{Ends}
 use Rattle.bh_control.specs.Statuses.{StatusOf}
 use Rattle.bh_decode.specs.declared.opening.ResponsePart.{ResponsePart}
 use Rattle.bh_decode.specs.declared.opening.ResponsePart.TheVariants as found

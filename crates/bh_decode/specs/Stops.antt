@@ -5,7 +5,7 @@ use Rattle.bh_spec.specs.declared.Refusal.{Refusal}
 use Rattle.bh_spec.specs.declared.Refusal.TheVariants as refusals
 use Rattle.bh_spec.specs.Bounds.{Bounds, no_bounds}
 use Rattle.bh_spec.specs.Texts.{Text}
-use Rattle.bh_control.specs.Pieces.{IsText, IsNext, GoesOn, IsDead, IsLimit}
+use Rattle.bh_spec.specs.Pieces.{SomeOf, IsText, IsNext, GoesOn, IsDead, IsLimit}
 use Rattle.bh_decode.specs.declared.stop.Stop.{Stop}
 use Rattle.bh_decode.specs.declared.stop.Stop.TheVariants.{Dead, Limit, Ended}
 use Rattle.bh_decode.specs.declared.fault.Fault.{Fault}
@@ -37,10 +37,6 @@ abbrev pub stop_behind : ℕ → Stop → Stop
 stop_behind before (Dead at part) = Dead (before + at) part
 stop_behind before (Limit at part) = Limit (before + at) part
 stop_behind before (Ended part) = Ended part
-
--- some one of several things
-abbrev pub SomeOf : {I : Type 0} → (I → Text → Type 0) → Text → Type 0
-SomeOf {I} A t = (i : I) × A i t
 
 -- the bytes end inside a thing, none of which is whole among them
 pub record IsCutThing (R : Text → Type 0) (bytes : List ℕ) (part : Part) : Type 0 where

@@ -1,7 +1,7 @@
 //! The content of a message.
 ghost use Rattle.std.specs.Prelude.{[], ◌≤◌, ◌^◌, length, IfOk, IfErr};
 ghost use Rattle.bh_spec.specs.declared.Form.TheVariants as forms;
-ghost use Rattle.bh_control.specs.Pieces.{Ends};
+ghost use Rattle.bh_spec.specs.Pieces.{Ends};
 ghost use Rattle.bh_decode.specs.Grammar.{BodyOf};
 ghost use Rattle.bh_decode.specs.Stops.{StopsAt, AtStop};
 

@@ -1,9 +1,9 @@
 //! Content.
 ghost use Rattle.std.specs.Prelude.{◌≡◌, [], take, IfSome, IfNone, IfOk, IfErr};
 ghost use Rattle.bh_spec.specs.declared.Part.TheVariants as parts;
-ghost use Rattle.bh_control.specs.Pieces.{Ends};
+ghost use Rattle.bh_spec.specs.Pieces.{SomeOf, Ends};
 ghost use Rattle.bh_decode.specs.Grammar.{ContentOf, RunOf};
-ghost use Rattle.bh_decode.specs.Stops.{SomeOf, IsCutThing, StopsAt};
+ghost use Rattle.bh_decode.specs.Stops.{IsCutThing, StopsAt};
 
 use crate::number::{GREATEST, read_number};
 use crate::slices::behind;

@@ -2,7 +2,7 @@
 ghost use Rattle.std.specs.Prelude.{◌≡◌, ◌≤◌, ◌^◌, [], length, IfOk, IfErr};
 ghost use Rattle.bh_spec.specs.Bounds.{no_bounds};
 ghost use Rattle.bh_model.specs.Values.{control_of, control_lent};
-ghost use Rattle.bh_control.specs.Pieces.{Ends};
+ghost use Rattle.bh_spec.specs.Pieces.{Ends};
 ghost use Rattle.bh_control.specs.Control.{ControlOf};
 ghost use Rattle.bh_decode.specs.Stops.{StopsAt, AtStop};
 

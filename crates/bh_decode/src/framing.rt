@@ -1,6 +1,6 @@
 //! The framing number.
 ghost use Rattle.std.specs.Prelude.{[], IfOk, IfErr};
-ghost use Rattle.bh_control.specs.Pieces.{Ends};
+ghost use Rattle.bh_spec.specs.Pieces.{Ends};
 ghost use Rattle.bh_decode.specs.Grammar.{IsFramed};
 ghost use Rattle.bh_decode.specs.Stops.{StopsAt};
 

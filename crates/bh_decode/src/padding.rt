@@ -2,7 +2,7 @@
 ghost use Rattle.std.specs.Prelude.{replicate, IfOk, IfErr};
 ghost use Rattle.bh_spec.specs.Texts.{IsRun};
 ghost use Rattle.bh_spec.specs.declared.Part.TheVariants as parts;
-ghost use Rattle.bh_control.specs.Pieces.{IsText};
+ghost use Rattle.bh_spec.specs.Pieces.{IsText};
 ghost use Rattle.bh_decode.specs.Grammar.{IsPaddingText};
 ghost use Rattle.bh_decode.specs.Stops.{Stops};
 

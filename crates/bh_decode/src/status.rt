@@ -1,6 +1,6 @@
 //! Statuses at the front of bytes.
 ghost use Rattle.std.specs.Prelude.{Some, None, [], IfOk, IfErr};
-ghost use Rattle.bh_control.specs.Pieces.{Ends};
+ghost use Rattle.bh_spec.specs.Pieces.{Ends};
 ghost use Rattle.bh_control.specs.Statuses.{StatusOf};
 ghost use Rattle.bh_decode.specs.Stops.{StopsAt};
 

@@ -1,6 +1,6 @@
 //! What stands behind the header section.
 ghost use Rattle.std.specs.Prelude.{◌≡◌, ◌≤◌, ◌^◌, None, length, IfOk, IfErr};
-ghost use Rattle.bh_control.specs.Pieces.{IsText};
+ghost use Rattle.bh_spec.specs.Pieces.{IsText};
 ghost use Rattle.bh_decode.specs.Found.{IsTailOf};
 ghost use Rattle.bh_decode.specs.Grammar.{IsEndText, IsRestText, EndOf};
 ghost use Rattle.bh_decode.specs.Stops.{FailsFor};

@@ -1,9 +1,9 @@
 //! Whole messages.
 ghost use Rattle.std.specs.Prelude.{◌≡◌, ◌≤◌, ◌^◌, Some, length, IfOk, IfErr};
-ghost use Rattle.bh_spec.specs.Viable.{SpellsBytes};
+ghost use Rattle.bh_spec.specs.Viable.{SpellsBytes, IsMessageText};
 ghost use Rattle.bh_spec.specs.declared.Kind.TheVariants as kinds;
 ghost use Rattle.bh_decode.specs.Found.{IsFramedMessage};
-ghost use Rattle.bh_decode.specs.Grammar.{IsAfterFraming, IsMessageText};
+ghost use Rattle.bh_decode.specs.Grammar.{IsAfterFraming};
 ghost use Rattle.bh_decode.specs.Stops.{FailsFor};
 
 use crate::control::read_control;

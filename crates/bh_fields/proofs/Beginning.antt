@@ -19,7 +19,8 @@ use Rattle.bh_fields.specs.declared.walk.Walk.{Walk}
 use Rattle.bh_fields.specs.declared.walk.Phase.{Phase}
 use Rattle.bh_fields.specs.declared.walk.Phase.TheVariants as phases
 use Rattle.bh_fields.specs.Sets.{lines_set, names_set}
-use Rattle.bh_fields.specs.Sections.{SectionOf, IsNextPart}
+use Rattle.bh_spec.specs.Pieces.{IsNext}
+use Rattle.bh_fields.specs.Sections.{SectionOf, IsSectionText}
 use Rattle.bh_fields.specs.Rests.{Spot, NumberThen, AreGood, LinesLeft, NameBody, LengthBody}
 use Rattle.bh_fields.specs.Tracks.{Tracked}
 use Rattle.bh_fields.specs.Names.{MayBePseudo}
@@ -213,5 +214,5 @@ reading_at (phases.Value missing first) p e h = h
 reading_at phases.Whole p e h = absurd cc
 reading_at phases.Refused p e h = absurd cc
 
-pub reader_next : (w : Walk) → IsSound w → stage_of w.phase ≡ reading → IsNextPart w.limits w.form w.place w.kept.items (part_at w.phase)
+pub reader_next : (w : Walk) → IsSound w → stage_of w.phase ≡ reading → IsNext (IsSectionText w.limits w.form w.place) w.kept.items (part_at w.phase)
 reader_next w s e = next_at w.phase (point_of w) s.sized (reading_at w.phase (point_of w) e s.known)

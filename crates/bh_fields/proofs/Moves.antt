@@ -16,7 +16,8 @@ use Rattle.bh_fields.specs.declared.walk.Phase.{Phase}
 use Rattle.bh_fields.specs.declared.walk.Phase.TheVariants as phases
 use Rattle.bh_fields.specs.declared.walk.Judged.TheVariants as judged
 use Rattle.bh_fields.specs.Sets.{lines_set, names_set, values_set, free_room}
-use Rattle.bh_fields.specs.Sections.{IsSectionOf}
+use Rattle.bh_spec.specs.Pieces.{IsText}
+use Rattle.bh_fields.specs.Sections.{SectionOf}
 use Rattle.bh_fields.specs.Rests.{NumberThen, CanEnd, HasMore, LinesLeft, NameBody}
 use Rattle.bh_fields.specs.Points.{Point, spot_of, part_of, most_of, IsSized, IsBounded, LengthState, NextState, LineState, NamedState, ValueLengthState, InValue, IsFull, Moves, Goes, Outcome}
 use Rattle.bh_spec.proofs.Widths.{count_1}
@@ -122,7 +123,7 @@ length_dead p byte phase z h dead none =
 pub next_whole : (p : Point) → IsSized p → NextState p → IsFull p.form p.total p.used → Moves judged.Whole p phases.Whole p
 next_whole p z h full = (z, (refl, record { idle = h.between.idle; whole = whole p.form refl full }), record { limits = refl; form = refl; place = refl }, refl)
   where
-    whole : (form : Form) → p.form ≡ form → IsFull form p.total p.used → IsSectionOf p.limits p.form p.place p.fields.lines p.kept
+    whole : (form : Form) → p.form ≡ form → IsFull form p.total p.used → IsText (SectionOf p.limits p.form p.place p.fields.lines) p.kept
     whole Indeterminate e f = absurd f
     whole Known e f =
         tracked_whole p.form p.place p.kept (λ L fields t. LinesLeft L (spot_of p) fields t) h.tracked p.limits p.fields.lines
@@ -271,7 +272,7 @@ named_whole p bytes z h = (z, (refl, record { idle = h.between.idle; whole = who
     ends (inl e) = e.0
     ends (inr g) = absurd (omega (arith, g.0))
 
-    whole : IsSectionOf p.limits p.form p.place p.fields.lines p.kept
+    whole : IsText (SectionOf p.limits p.form p.place p.fields.lines) p.kept
     whole =
         tracked_whole p.form p.place p.kept (λ L fields t. NameBody L (spot_of p) fields 0 bytes t) h.tracked p.limits p.fields.lines
         (ending (ends (name_allowed p.form (part_of p.limits) (Some (p.total - p.used)) bytes 0 h.allowed)))

@@ -18,7 +18,8 @@ use Rattle.bh_model.specs.declared.field.Place.{Place}
 use Rattle.bh_fields.specs.declared.walk.Phase.{Phase}
 use Rattle.bh_fields.specs.declared.walk.Phase.TheVariants as phases
 use Rattle.bh_fields.specs.Sets.{lines_set, names_set, values_set, free_room}
-use Rattle.bh_fields.specs.Sections.{SectionBegins, IsNextPart}
+use Rattle.bh_spec.specs.Pieces.{CanBecome, IsNext}
+use Rattle.bh_fields.specs.Sections.{IsSectionText}
 use Rattle.bh_fields.specs.Rests.{NumberThen, AreGood, ValueLeft, ValueBody, NameLeft, NameBody, LengthBody}
 use Rattle.bh_fields.specs.Tracks.{Tracked}
 use Rattle.bh_fields.specs.Phases.{part_at}
@@ -35,20 +36,20 @@ abbrev pub NumberText : Part → (Bounds → List Field → ℕ → ℕ → Text
 NumberText part Body now L fields t = NumberThen part (Body L fields) (mark part now ++ t)
 
 number_next : (form : Form) (place : Place) (kept : List ℕ) (part : Part) (Body : Bounds → List Field → ℕ → ℕ → Text → Type 0) (L : Bounds) (set : Allowed) (now : List ℕ)
-    → Tracked form place kept (NumberText part Body now) → Continues (Body L) set → IsUnfinished now → SomeBegins set now → IsNextPart L form place kept part
+    → Tracked form place kept (NumberText part Body now) → Continues (Body L) set → IsUnfinished now → SomeBegins set now → IsNext (IsSectionText L form place) kept part
 number_next form place kept part Body L set now T from un live =
     let o = number_opens part (Body L) set now from un live in
     tracked_next form place kept (NumberText part Body now) T L part o.0 o.1 o.2 o.3
 
 pub number_more : (form : Form) (place : Place) (kept : List ℕ) (part : Part) (Body : Bounds → List Field → ℕ → ℕ → Text → Type 0) (L : Bounds) (now : List ℕ) (byte : ℕ)
-    → Tracked form place kept (NumberText part Body now) → IsNextPart L form place kept part → Tracked form place (kept ++ byte ∷ []) (NumberText part Body (now ++ byte ∷ []))
+    → Tracked form place kept (NumberText part Body now) → IsNext (IsSectionText L form place) kept part → Tracked form place (kept ++ byte ∷ []) (NumberText part Body (now ++ byte ∷ []))
 number_more form place kept part Body L now byte T next =
     tracked_step form place kept (NumberText part Body now) (NumberText part Body (now ++ byte ∷ [])) T L part byte next
     (λ K fields t h. subst (NumberThen part (Body K fields)) (sym (mark-snoc part now byte t)) h)
     (λ K fields t h. subst (NumberThen part (Body K fields)) (mark-snoc part now byte t) h)
 
 pub number_value : (form : Form) (place : Place) (kept : List ℕ) (part : Part) (Body : Bounds → List Field → ℕ → ℕ → Text → Type 0) (L : Bounds) (set : Allowed) (now : List ℕ) (byte n : ℕ) (w : Width)
-    → Tracked form place kept (NumberText part Body now) → IsNextPart L form place kept part → IsWhole set (now ++ byte ∷ []) n w
+    → Tracked form place kept (NumberText part Body now) → IsNext (IsSectionText L form place) kept part → IsWhole set (now ++ byte ∷ []) n w
     → Tracked form place (kept ++ byte ∷ []) (λ K fields t. Body K fields n (byte_count w) t)
 number_value form place kept part Body L set now byte n w T next whole =
     tracked_same form place (kept ++ byte ∷ []) (NumberText part Body (now ++ byte ∷ [])) (λ K fields t. Body K fields n (byte_count w) t)
@@ -58,9 +59,9 @@ number_value form place kept part Body L set now byte n w T next whole =
 
 -- no section goes on
 pub number_stops : (form : Form) (place : Place) (kept : List ℕ) (part : Part) (Body : Bounds → List Field → ℕ → ℕ → Text → Type 0) (L : Bounds) (now : List ℕ) (byte : ℕ)
-    → Tracked form place kept (NumberText part Body now) → IsNextPart L form place kept part → IsUnfinished now
+    → Tracked form place kept (NumberText part Body now) → IsNext (IsSectionText L form place) kept part → IsUnfinished now
     → (K : Bounds) (set : Allowed) → ((fields : List Field) (n : ℕ) (w : Width) (y : Text) → n < limit_of w → Body K fields n (byte_count w) y → IsAllowed set (byte_count w) n)
-    → (SomeBegins set (now ++ byte ∷ []) → ⊥) → SectionBegins K form place (kept ++ byte ∷ []) → ⊥
+    → (SomeBegins set (now ++ byte ∷ []) → ⊥) → CanBecome (IsSectionText K form place) (kept ++ byte ∷ []) → ⊥
 number_stops form place kept part Body L now byte T next un K set only dead =
     tracked_dead form place kept (NumberText part Body now) T L part byte next K
     (λ fields t h. number_dead part (Body K fields) set now byte t un (only fields) dead h)
@@ -68,7 +69,7 @@ number_stops form place kept part Body L now byte T next un K set only dead =
 -- some section goes on
 pub number_lives : (form : Form) (place : Place) (kept : List ℕ) (part : Part) (Body : Bounds → List Field → ℕ → ℕ → Text → Type 0) (now : List ℕ) (byte : ℕ)
     → Tracked form place kept (NumberText part Body now) → (K : Bounds) (set : Allowed) → Continues (Body K) set → SomeBegins set (now ++ byte ∷ [])
-    → SectionBegins K form place (kept ++ byte ∷ [])
+    → CanBecome (IsSectionText K form place) (kept ++ byte ∷ [])
 number_lives form place kept part Body now byte T K set from live =
     let a = number_alive part (Body K) set (now ++ byte ∷ []) from live in
     tracked_alive form place kept (NumberText part Body now) T K part byte a.0 a.1 (subst (NumberThen part (Body K a.0)) (mark-snoc part now byte a.1) a.2)
@@ -144,16 +145,16 @@ pub values_free : (p : Point) (name value : List ℕ) → Valued p name value
 values_free p name value v =
     value_from no_bounds (spot_of p) greatest (free_room p.form (p.total - p.used)) name (caps_free p v.room) (good_free p.limits p.place p.fields.lines v.good) v.behind tt
 
-pub length_next : (p : Point) → IsSized p → LengthState p → IsNextPart p.limits p.form p.place p.kept parts.SectionLength
+pub length_next : (p : Point) → IsSized p → LengthState p → IsNext (IsSectionText p.limits p.form p.place) p.kept parts.SectionLength
 length_next p z h =
     number_next p.form p.place p.kept parts.SectionLength (LengthAt p) p.limits (lines_set (most_of p.limits)) p.number h.tracked (lengths_from p z h) h.unfinished h.live
 
-pub line_next : (p : Point) → IsSized p → LineState p → IsNextPart p.limits p.form p.place p.kept parts.NameLength
+pub line_next : (p : Point) → IsSized p → LineState p → IsNext (IsSectionText p.limits p.form p.place) p.kept parts.NameLength
 line_next p z h =
     number_next p.form p.place p.kept parts.NameLength (NamesAt p) p.limits (names_set p.form (part_of p.limits) (Some (p.total - p.used))) p.number h.tracked
     (names_from p z h.between) h.unfinished h.live
 
-pub value_length_next : (p : Point) → IsSized p → ValueLengthState p → IsNextPart p.limits p.form p.place p.kept parts.ValueLength
+pub value_length_next : (p : Point) → IsSized p → ValueLengthState p → IsNext (IsSectionText p.limits p.form p.place) p.kept parts.ValueLength
 value_length_next p z h =
     number_next p.form p.place p.kept parts.ValueLength (ValuesAt p h.name) p.limits (values_set p.form (part_of p.limits) (Some (p.total - p.used))) p.number h.tracked
     (values_from p h.name [] z h.valued) h.unfinished h.live
@@ -163,7 +164,7 @@ first_of_run : (part : Part) (tail : List ℕ) (behind t : Text) → 0 < length 
 first_of_run part [] behind t some e = absurd (omega arith)
 first_of_run part (byte ∷ tail) behind t some e = (byte, mark part tail ++ behind, e)
 
-pub name_next : (p : Point) (missing : ℕ) → IsSized p → NameState p missing → IsNextPart p.limits p.form p.place p.kept parts.Name
+pub name_next : (p : Point) (missing : ℕ) → IsSized p → NameState p missing → IsNext (IsSectionText p.limits p.form p.place) p.kept parts.Name
 name_next p missing z h =
     let room : 1 ≤ p.total - p.used = omega (arith, h.room) in
     let o = name_opens p.limits (spot_of p) (part_of p.limits) (Some (p.total - p.used)) h.name missing (caps_of p z h.bounded (omega (arith, h.room))) room h.good
@@ -172,7 +173,7 @@ name_next p missing z h =
     tracked_next p.form p.place p.kept (λ L fields t. NameLeft L (spot_of p) h.name missing fields t) h.tracked p.limits parts.Name o.0 f.0 f.1
     (subst (NameLeft p.limits (spot_of p) h.name missing o.0) {y = (parts.Name, f.0) ∷ f.1} f.2 o.2)
 
-pub value_next : (p : Point) (value : List ℕ) (missing : ℕ) → IsSized p → InValue p value missing → 0 < missing → IsNextPart p.limits p.form p.place p.kept parts.Value
+pub value_next : (p : Point) (value : List ℕ) (missing : ℕ) → IsSized p → InValue p value missing → 0 < missing → IsNext (IsSectionText p.limits p.form p.place) p.kept parts.Value
 value_next p value missing z h some =
     let v = h.valued in
     let o = value_opens p.limits (spot_of p) h.name value missing (two_within p z) v.good v.behind v.within (value_goes_on value missing h.kind) h.within h.can_end in
@@ -180,7 +181,7 @@ value_next p value missing z h some =
     tracked_next p.form p.place p.kept (λ L fields t. ValueLeft L (spot_of p) h.name value missing fields t) h.tracked p.limits parts.Value o.0 f.0 f.1
     (subst (ValueLeft p.limits (spot_of p) h.name value missing o.0) {y = (parts.Value, f.0) ∷ f.1} f.2 o.2)
 
-pub next_at : (phase : Phase) (p : Point) → IsSized p → ReadingAt phase p → IsNextPart p.limits p.form p.place p.kept (part_at phase)
+pub next_at : (phase : Phase) (p : Point) → IsSized p → ReadingAt phase p → IsNext (IsSectionText p.limits p.form p.place) p.kept (part_at phase)
 next_at phases.Idle p z h = absurd h
 next_at phases.SectionLength p z h = length_next p z h
 next_at phases.NameLength p z h = line_next p z h

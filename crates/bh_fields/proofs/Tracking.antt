@@ -6,44 +6,36 @@ use Rattle.bh_spec.specs.declared.Part.{Part}
 use Rattle.bh_spec.specs.Bounds.{Bounds}
 use Rattle.bh_spec.specs.Messages.{Field}
 use Rattle.bh_spec.specs.Texts.{Text, bytes_of}
-use Rattle.bh_spec.proofs.Meeting.{Meets, meets_next, meets_front}
+use Rattle.bh_spec.proofs.Meeting.{Meets, meets_map, meets_one}
+use Rattle.bh_spec.proofs.Agreement.{Agree}
+use Rattle.bh_spec.proofs.Pieces.{one_next}
 use Rattle.bh_spec.proofs.Sections.{IsNamed, section_agrees}
 use Rattle.bh_spec.proofs.Whole.{headers_named, trailers_named}
 use Rattle.bh_spec.proofs.Marks.{bytes_of-append}
 use Rattle.bh_model.specs.declared.field.Place.{Place}
 use Rattle.bh_model.specs.declared.field.Place.TheVariants.{Header, Trailer}
 use Rattle.bh_model.specs.Rules.{AreLines}
-use Rattle.bh_fields.specs.Sections.{SectionOf, IsSectionOf, SectionBegins, IsNextPart}
+use Rattle.bh_spec.specs.Pieces.{IsText, CanBecome, IsNext}
+use Rattle.bh_fields.specs.Sections.{SectionOf, IsSectionText}
+use Rattle.bh_fields.specs.Laws.{OneSection, OneNextPart}
 use Rattle.bh_fields.specs.Tracks.{Tracked}
 
 pub lines_named : (place : Place) (fields : List Field) → AreLines place fields → All IsNamed fields
 lines_named Header fields h = headers_named fields h
 lines_named Trailer fields h = trailers_named fields h
 
-sections_meet : (K L : Bounds) (form : Form) (place : Place) (fs gs : List Field) (t u : Text) → SectionOf K form place fs t → SectionOf L form place gs u
+pub sections_meet : (K L : Bounds) (form : Form) (place : Place) (fs gs : List Field) (t u : Text) → SectionOf K form place fs t → SectionOf L form place gs u
     → Meets ⊥ (fs ≡ gs) t u
 sections_meet K L form place fs gs t u a b =
     section_agrees K L form fs gs (lines_named place fs a.1) (lines_named place gs b.1) t u a.0 b.0
 
--- the part of the next byte, from one text that has it
-next_from : (L : Bounds) (form : Form) (place : Place) (fields : List Field) (before : Text) (part : Part) (byte : ℕ) (after : Text) (bytes : List ℕ)
-    → SectionOf L form place fields (before ++ ((part, byte) ∷ after)) → bytes_of before ≡ bytes → IsNextPart L form place bytes part
-next_from L form place fields before part byte after bytes h e = record {
-  fields = fields;
-  before = before;
-  byte = byte;
-  after = after;
-  spelled = h;
-  begins = e;
-  each = λ K others x p b y k f.
-      meets_next ⊥ (others ≡ fields) x before (p, b) (part, byte) y after
-      (sections_meet K L form place others fields (x ++ ((p, b) ∷ y)) (before ++ ((part, byte) ∷ after)) k h) (f ∙ sym e);
-}
+pub sections_once : (K L : Bounds) (form : Form) (place : Place) → Agree ⊥ (Unit {0}) (IsSectionText K form place) (IsSectionText L form place)
+sections_once K L form place t u a b = meets_map ⊥ (a.0 ≡ b.0) (Unit {0}) t u (λ e. tt) (sections_meet K L form place a.0 b.0 t u a.1 b.1)
 
 pub tracked_next : (form : Form) (place : Place) (bytes : List ℕ) (R : Bounds → List Field → Text → Type 0) → Tracked form place bytes R
-    → (L : Bounds) (part : Part) (fields : List Field) (byte : ℕ) (t : Text) → R L fields ((part, byte) ∷ t) → IsNextPart L form place bytes part
+    → (L : Bounds) (part : Part) (fields : List Field) (byte : ℕ) (t : Text) → R L fields ((part, byte) ∷ t) → IsNext (IsSectionText L form place) bytes part
 tracked_next form place bytes R T L part fields byte t r =
-    next_from L form place fields T.text part byte t bytes (T.back L fields ((part, byte) ∷ t) r) T.same
+    record { before = T.text; byte = byte; after = t; spelled = (fields, T.back L fields ((part, byte) ∷ t) r); begins = T.same }
 
 -- what follows begins with the byte, and it has the part
 record Follows (R : Bounds → List Field → Text → Type 0) (K : Bounds) (fields : List Field) (text u : Text) (part : Part) (byte : ℕ) : Type 0 where
@@ -52,7 +44,7 @@ record Follows (R : Bounds → List Field → Text → Type 0) (K : Bounds) (fie
   follows : R K fields ((part, byte) ∷ rest)
 
 follows : (form : Form) (place : Place) (bytes : List ℕ) (R : Bounds → List Field → Text → Type 0) (T : Tracked form place bytes R)
-    → (L : Bounds) (part : Part) → IsNextPart L form place bytes part
+    → (L : Bounds) (part : Part) → IsNext (IsSectionText L form place) bytes part
     → (K : Bounds) (fields : List Field) (u : Text) (byte : ℕ) (x : List ℕ) → SectionOf K form place fields u → bytes_of u ≡ (bytes ++ byte ∷ []) ++ x
     → Follows R K fields T.text u part byte
 follows form place bytes R T L part next K fields u byte x h e =
@@ -67,7 +59,8 @@ follows form place bytes R T L part next K fields u byte x h e =
     at (a ∷ t) g r b =
         let value : a.1 ≡ byte = cc in
         let spelled : SectionOf K form place fields (T.text ++ ((a.0, a.1) ∷ t)) = subst (SectionOf K form place fields) g h in
-        let named : a.0 ≡ part = next.each K fields T.text a.0 a.1 t spelled T.same in
+        let here : IsNext (IsSectionText K form place) bytes a.0 = record { before = T.text; byte = a.1; after = t; spelled = (fields, spelled); begins = T.same } in
+        let named : a.0 ≡ part = one_next (Unit {0}) (IsSectionText K form place) (IsSectionText L form place) (sections_once K L form place) bytes a.0 part here next in
         let pair : a ≡ (part, byte) = ap₂ (λ (p : Part) (n : ℕ). let z : Part × ℕ = (p, n) in z) named value in
         record {
           rest = t;
@@ -77,7 +70,7 @@ follows form place bytes R T L part next K fields u byte x h e =
 
 -- a byte that is taken
 pub tracked_step : (form : Form) (place : Place) (bytes : List ℕ) (R S : Bounds → List Field → Text → Type 0) → Tracked form place bytes R
-    → (L : Bounds) (part : Part) (byte : ℕ) → IsNextPart L form place bytes part
+    → (L : Bounds) (part : Part) (byte : ℕ) → IsNext (IsSectionText L form place) bytes part
     → ((K : Bounds) (fields : List Field) (t : Text) → R K fields ((part, byte) ∷ t) → S K fields t)
     → ((K : Bounds) (fields : List Field) (t : Text) → S K fields t → R K fields ((part, byte) ∷ t))
     → Tracked form place (bytes ++ byte ∷ []) S
@@ -104,72 +97,36 @@ tracked_same form place bytes R S T forth back = record {
 
 -- a byte that nothing continues
 pub tracked_dead : (form : Form) (place : Place) (bytes : List ℕ) (R : Bounds → List Field → Text → Type 0) → Tracked form place bytes R
-    → (L : Bounds) (part : Part) (byte : ℕ) → IsNextPart L form place bytes part
-    → (K : Bounds) → ((fields : List Field) (t : Text) → R K fields ((part, byte) ∷ t) → ⊥) → SectionBegins K form place (bytes ++ byte ∷ []) → ⊥
+    → (L : Bounds) (part : Part) (byte : ℕ) → IsNext (IsSectionText L form place) bytes part
+    → (K : Bounds) → ((fields : List Field) (t : Text) → R K fields ((part, byte) ∷ t) → ⊥) → CanBecome (IsSectionText K form place) (bytes ++ byte ∷ []) → ⊥
 tracked_dead form place bytes R T L part byte next K none h =
-    let f = follows form place bytes R T L part next K h.fields h.text byte h.after h.spelled h.begins in
-    none h.fields f.rest f.follows
+    let f = follows form place bytes R T L part next K h.spelled.0 h.text byte h.after h.spelled.1 h.begins in
+    none h.spelled.0 f.rest f.follows
 
 -- a byte that something continues
 pub tracked_alive : (form : Form) (place : Place) (bytes : List ℕ) (R : Bounds → List Field → Text → Type 0) → Tracked form place bytes R
-    → (K : Bounds) (part : Part) (byte : ℕ) (fields : List Field) (t : Text) → R K fields ((part, byte) ∷ t) → SectionBegins K form place (bytes ++ byte ∷ [])
+    → (K : Bounds) (part : Part) (byte : ℕ) (fields : List Field) (t : Text) → R K fields ((part, byte) ∷ t) → CanBecome (IsSectionText K form place) (bytes ++ byte ∷ [])
 tracked_alive form place bytes R T K part byte fields t r = record {
-  fields = fields;
   text = T.text ++ ((part, byte) ∷ t);
   after = bytes_of t;
-  spelled = T.back K fields ((part, byte) ∷ t) r;
+  spelled = (fields, T.back K fields ((part, byte) ∷ t) r);
   begins = bytes_of-append T.text ((part, byte) ∷ t) ∙ ap (λ (z : List ℕ). z ++ (byte ∷ bytes_of t)) T.same ∙ sym (append_assoc bytes (byte ∷ []) (bytes_of t));
 }
 
 pub tracked_whole : (form : Form) (place : Place) (bytes : List ℕ) (R : Bounds → List Field → Text → Type 0) → Tracked form place bytes R
-    → (L : Bounds) (fields : List Field) → R L fields [] → IsSectionOf L form place fields bytes
+    → (L : Bounds) (fields : List Field) → R L fields [] → IsText (SectionOf L form place fields) bytes
 tracked_whole form place bytes R T L fields r = record {
   text = T.text;
   spelled = subst (SectionOf L form place fields) (append-nil T.text) (T.back L fields [] r);
   same = T.same;
 }
 
--- ---- answers exclude each other
+-- ---- the laws of sections as a whole
 
--- no section begins another
-pub section_alone : (K L : Bounds) (form : Form) (place : Place) (fields : List Field) (bytes x : List ℕ) → IsSectionOf K form place fields bytes
-    → SectionBegins L form place (bytes ++ x) → x ≡ []
-section_alone K L form place fields bytes x a b =
-    let e : bytes_of a.text ++ (x ++ b.after) ≡ bytes_of b.text ++ [] =
-    ap (λ (z : List ℕ). z ++ (x ++ b.after)) a.same ∙ sym (append_assoc bytes x b.after) ∙ sym b.begins ∙ sym (append-nil (bytes_of b.text)) in
-    let front = meets_front (fields ≡ b.fields) a.text b.text (x ++ b.after) [] (sections_meet K L form place fields b.fields a.text b.text a.spelled b.spelled) e in
-    none x b.after front.2
-  where
-    none : (x y : List ℕ) → x ++ y ≡ [] → x ≡ []
-    none [] y e = refl
-    none (c ∷ x) y e = absurd cc
+pub one_section : OneSection
+one_section K L form place fields others bytes g h =
+    meets_one ⊥ (fields ≡ others) g.text h.text (sections_meet K L form place fields others g.text h.text g.spelled h.spelled) (g.same ∙ sym h.same)
 
--- bytes with a next part are no section
-pub next_unfinished : (K L : Bounds) (form : Form) (place : Place) (fields : List Field) (bytes : List ℕ) (part : Part) → IsNextPart L form place bytes part
-    → IsSectionOf K form place fields bytes → ⊥
-next_unfinished K L form place fields bytes part next h =
-    let e : bytes_of h.text ++ (next.byte ∷ bytes_of next.after) ≡ bytes_of (next.before ++ ((part, next.byte) ∷ next.after)) ++ [] =
-    ap (λ (z : List ℕ). z ++ (next.byte ∷ bytes_of next.after)) (h.same ∙ sym next.begins)
-    ∙ sym (bytes_of-append next.before ((part, next.byte) ∷ next.after)) ∙ sym (append-nil (bytes_of (next.before ++ ((part, next.byte) ∷ next.after)))) in
-    let front = meets_front (fields ≡ next.fields) h.text (next.before ++ ((part, next.byte) ∷ next.after)) (next.byte ∷ bytes_of next.after) []
-    (sections_meet K L form place fields next.fields h.text (next.before ++ ((part, next.byte) ∷ next.after)) h.spelled next.spelled) e in
-    some front.2
-  where
-    some : next.byte ∷ bytes_of next.after ≡ [] → ⊥
-    some e = absurd cc
-
--- bytes with a next part begin a section
-pub next_begins : (L : Bounds) (form : Form) (place : Place) (bytes : List ℕ) (part : Part) → IsNextPart L form place bytes part → SectionBegins L form place bytes
-next_begins L form place bytes part next = record {
-  fields = next.fields;
-  text = next.before ++ ((part, next.byte) ∷ next.after);
-  after = next.byte ∷ bytes_of next.after;
-  spelled = next.spelled;
-  begins = bytes_of-append next.before ((part, next.byte) ∷ next.after) ∙ ap (λ (z : List ℕ). z ++ (next.byte ∷ bytes_of next.after)) next.begins;
-}
-
-pub begins_shorter : (L : Bounds) (form : Form) (place : Place) (bytes x : List ℕ) → SectionBegins L form place (bytes ++ x) → SectionBegins L form place bytes
-begins_shorter L form place bytes x h = record { fields = h.fields; text = h.text; after = x ++ h.after; spelled = h.spelled; begins = h.begins ∙ append_assoc bytes x h.after }
-
-pub next_once : (K L : Bounds) (form : Form) (place : Place) (bytes : List ℕ) (p q : Part) → IsNextPart K form place bytes p → IsNextPart L form place bytes q → p ≡ q
-next_once K L form place bytes p q a b = b.each K a.fields a.before p a.byte a.after a.spelled a.begins
+pub one_next_part : OneNextPart
+one_next_part K L form place bytes p q g h =
+    one_next (Unit {0}) (IsSectionText K form place) (IsSectionText L form place) (sections_once K L form place) bytes p q g h

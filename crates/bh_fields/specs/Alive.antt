@@ -14,7 +14,8 @@ use Rattle.bh_model.specs.declared.field.Place.{Place}
 use Rattle.bh_model.specs.Rules.{IsNameBehind}
 use Rattle.bh_fields.specs.Names.{MayBePseudo, NameGood, NameTakes, ValueGood, ValueTakes}
 use Rattle.bh_fields.specs.Rests.{Spot, HasMore, NumberThen, AreGood, LinesLeft, ValueBody}
-use Rattle.bh_fields.specs.Sections.{SectionBegins}
+use Rattle.bh_spec.specs.Pieces.{SomeOf, CanBecome}
+use Rattle.bh_fields.specs.Sections.{IsSectionText}
 use Rattle.bh_fields.specs.Sets.{lines_set, names_set, values_set}
 
 -- what is left of a limit of the section
@@ -33,33 +34,25 @@ pub record Caps (L : Bounds) (s : Spot) (part : ℕ) (room : Option ℕ) : Type 
   pub low : 2 ≤ part
   pub room_is : RoomIs L s.form s.total s.used room
 
--- some text that R says begins with the bytes
-pub record TextBegins (R : List Field → Text → Type 0) (bytes : List ℕ) : Type 0 where
-  pub fields : List Field
-  pub text : Text
-  pub after : List ℕ
-  pub is : R fields text
-  pub begins : bytes_of text ≡ bytes ++ after
-
 -- The length of a known-length section: behind the bytes of a number that was begun, a byte lives where 0 begins so, or a
 -- number from 3 to the limit.
 abbrev pub SectionLengthAlive : Type 0
 SectionLengthAlive = (L : Bounds) (place : Place) (most byte : ℕ) (now : List ℕ)
     → ((n : ℕ) → n ≤ greatest → IsWithin L.section n → n ≤ most) → ((n : ℕ) → n ≤ most → IsWithin L.section n) → IsWithin L.part 2 → IsUnfinished now
-    → SomeBegins (lines_set most) (now ++ byte ∷ []) ↔ SectionBegins L Known place (now ++ byte ∷ [])
+    → SomeBegins (lines_set most) (now ++ byte ∷ []) ↔ CanBecome (IsSectionText L Known place) (now ++ byte ∷ [])
 
 -- The length of a name, or the number that ends a section: where a line may stand, some lines up to the end begin so.
 abbrev pub NameLengthAlive : Type 0
 NameLengthAlive = (L : Bounds) (s : Spot) (part : ℕ) (room : Option ℕ) (byte : ℕ) (now : List ℕ)
     → Caps L s part room → AreGood L s.place s.done → HasMore s.form s.total s.used → IsUnfinished now
-    → SomeBegins (names_set s.form part room) (now ++ byte ∷ []) ↔ TextBegins (LinesLeft L s) (now ++ byte ∷ [])
+    → SomeBegins (names_set s.form part room) (now ++ byte ∷ []) ↔ CanBecome (SomeOf (LinesLeft L s)) (now ++ byte ∷ [])
 
 -- The length of a value: behind a name, some value and more lines up to the end begin so.
 abbrev pub ValueLengthAlive : Type 0
 ValueLengthAlive = (L : Bounds) (s : Spot) (part : ℕ) (room : Option ℕ) (name : List ℕ) (byte : ℕ) (now : List ℕ)
     → Caps L s part room → AreGood L s.place s.done → IsNameBehind s.place s.done name → IsWithin L.part (length name) → IsUnfinished now
     → SomeBegins (values_set s.form part room) (now ++ byte ∷ [])
-    ↔ TextBegins (λ fields t. NumberThen parts.ValueLength (ValueBody L s name fields) t) (now ++ byte ∷ [])
+    ↔ CanBecome (SomeOf (λ fields t. NumberThen parts.ValueLength (ValueBody L s name fields) t)) (now ++ byte ∷ [])
 
 -- The next byte of a name: some name that is valid there goes on with it.
 abbrev pub NameByteAlive : Type 0

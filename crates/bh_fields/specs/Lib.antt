@@ -1,5 +1,6 @@
 pub mod Sets
 pub mod Sections
+pub mod Laws
 pub mod Rests
 pub mod Tracks
 pub mod Names

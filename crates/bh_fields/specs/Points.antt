@@ -18,7 +18,8 @@ use Rattle.bh_fields.specs.declared.walk.Phase.TheVariants as phases
 use Rattle.bh_fields.specs.declared.walk.Judged.{Judged}
 use Rattle.bh_fields.specs.declared.walk.Judged.TheVariants as judged
 use Rattle.bh_fields.specs.Sets.{lines_set, names_set, values_set}
-use Rattle.bh_fields.specs.Sections.{IsSectionOf, SectionBegins}
+use Rattle.bh_spec.specs.Pieces.{IsText, CanBecome}
+use Rattle.bh_fields.specs.Sections.{SectionOf, IsSectionText}
 use Rattle.bh_fields.specs.Rests.{Spot, NumberThen, AreGood, CanEnd, HasMore, LinesLeft, ValueLeft, ValueBody, NameLeft, NameBody, LengthBody}
 use Rattle.bh_fields.specs.Tracks.{Tracked}
 use Rattle.bh_fields.specs.Names.{MayBePseudo, NameGood, ValueGood}
@@ -208,7 +209,7 @@ pub record ValueState (p : Point) (missing : ℕ) (first : Bool) : Type 0 where
 -- the section is whole
 pub record WholeState (p : Point) : Type 0 where
   pub idle : p.fields.making ≡ None
-  pub whole : IsSectionOf p.limits p.form p.place p.fields.lines p.kept
+  pub whole : IsText (SectionOf p.limits p.form p.place p.fields.lines) p.kept
 
 -- what is known where a byte may be read
 abbrev pub ReadingAt : Phase → Point → Type 0
@@ -235,7 +236,7 @@ Moves judged.Limit p phase q = ⊥
 Moves judged.Dead p phase q = ⊥
 
 abbrev pub Goes : Bounds → Point → ℕ → Type 0
-Goes L p byte = SectionBegins L p.form p.place (p.kept ++ byte ∷ [])
+Goes L p byte = CanBecome (IsSectionText L p.form p.place) (p.kept ++ byte ∷ [])
 
 -- what a byte makes of it
 abbrev pub Outcome : Judged → Point → ℕ → Phase → Point → Type 0

@@ -11,7 +11,8 @@ use Rattle.bh_fields.specs.declared.walk.Phase.{Phase}
 use Rattle.bh_fields.specs.declared.walk.Phase.TheVariants as phases
 use Rattle.bh_fields.specs.declared.walk.Judged.{Judged}
 use Rattle.bh_fields.specs.declared.walk.Judged.TheVariants as judged
-use Rattle.bh_fields.specs.Sections.{IsSectionOf, SectionBegins}
+use Rattle.bh_spec.specs.Pieces.{IsText, CanBecome}
+use Rattle.bh_fields.specs.Sections.{SectionOf, IsSectionText}
 use Rattle.bh_fields.specs.Points.{Point, point_of, IsSized, LengthState, LineState, NameState, ValueLengthState, ValueState, WholeState}
 
 -- no section was begun; one is read; it is whole; a byte was refused
@@ -73,12 +74,12 @@ pub record IsSameSection (v w : SectionView) : Type 0 where
   pub place : w.place ≡ v.place
 
 abbrev pub GoesOnWith : Bounds → SectionView → ℕ → Type 0
-GoesOnWith L v byte = SectionBegins L v.form v.place (v.bytes ++ byte ∷ [])
+GoesOnWith L v byte = CanBecome (IsSectionText L v.form v.place) (v.bytes ++ byte ∷ [])
 
 -- what a byte makes of a reader
 abbrev pub Takes : Judged → SectionView → ℕ → SectionView → Type 0
 Takes judged.More v byte w = IsSameSection v w × (w.bytes ≡ v.bytes ++ byte ∷ []) × (w.stage ≡ reading)
-Takes judged.Whole v byte w = IsSameSection v w × (w.bytes ≡ v.bytes ++ byte ∷ []) × (w.stage ≡ whole) × IsSectionOf w.limits w.form w.place w.lines w.bytes
+Takes judged.Whole v byte w = IsSameSection v w × (w.bytes ≡ v.bytes ++ byte ∷ []) × (w.stage ≡ whole) × IsText (SectionOf w.limits w.form w.place w.lines) w.bytes
 Takes judged.Limit v byte w = IsSameSection v w × (w.bytes ≡ v.bytes) × (w.stage ≡ refused) × (GoesOnWith v.limits v byte → ⊥) × GoesOnWith no_bounds v byte
 Takes judged.Dead v byte w = IsSameSection v w × (w.bytes ≡ v.bytes) × (w.stage ≡ refused) × (GoesOnWith v.limits v byte → ⊥) × (GoesOnWith no_bounds v byte → ⊥)
 

@@ -1,5 +1,18 @@
-//! Laws of sections: which numbers and bytes may come next. Each holds within limits and without.
+//! Laws about the definitions. Each function is empty: its contract is the law.
 ghost use Rattle.bh_fields.specs.Alive.{SectionLengthAlive, NameLengthAlive, ValueLengthAlive, NameByteAlive, ValueByteAlive};
+ghost use Rattle.bh_fields.specs.Laws.{OneSection, OneNextPart};
+
+/// Bytes are the section of one list of fields at most, whatever the limits.
+pub fn one_section()
+    ensures { OneSection }
+{}
+
+/// All longer sections that begin with some bytes have one part there, whatever the limits.
+pub fn one_next_part()
+    ensures { OneNextPart }
+{}
+
+// Which numbers and bytes may come next, within limits and without.
 
 /// A known-length section has no bytes, or from 3 to the limit: a byte of its length lives exactly where such a number
 /// begins so.

@@ -1,9 +1,9 @@
 //! The reader of sections, over pieces of any length.
 ghost use Rattle.std.specs.Prelude.{◌≡◌, ◌↔◌, ℕ, IfOk, IsTrue, None};
 ghost use Rattle.bh_spec.specs.declared.Part.{Part as part_type};
-ghost use Rattle.bh_fields.specs.Sections.{IsNextPart};
+ghost use Rattle.bh_spec.specs.Pieces.{IsNext, Ends, GoesOn, IsDead, IsLimit};
 ghost use Rattle.bh_fields.specs.Views.{reading, whole, new_view, begun_view, first_of, Takes};
-ghost use Rattle.bh_fields.specs.Readers.{IsNeed, IsWholeAt, IsDeadAt, IsLimitAt, IsBehind, Shows};
+ghost use Rattle.bh_fields.specs.Readers.{IsWanted, IsUnlimited, IsBehind, Shows};
 
 use crate::walk::{Judged, Phase, Walk};
 use bh_base::NoMemory;
@@ -91,12 +91,15 @@ impl SectionReader {
     /// Takes the bytes of a piece up to the section's end, or to the first byte after which no section continues.
     pub fn push(&mut self, piece: &[u8]) -> SectionStep
         requires { self.old.stage ≡ reading }
-        ensures need { (result ≡ SectionStep.Need) ↔ IsNeed self.old piece.now }
-        ensures whole { (taken : ℕ) → (result ≡ SectionStep.Whole taken) ↔ IsWholeAt self.old piece.now taken }
+        ensures need { (result ≡ SectionStep.Need) ↔ GoesOn (IsWanted self.old) self.old.bytes piece.now }
+        ensures whole { (taken : ℕ)
+            → (result ≡ SectionStep.Whole taken) ↔ Ends (IsWanted self.old) self.old.bytes piece.now taken }
         ensures dead { (offset : ℕ) (part : part_type)
-            → (result ≡ SectionStep.Dead offset part) ↔ IsDeadAt self.old piece.now offset part }
+            → (result ≡ SectionStep.Dead offset part)
+            ↔ IsDead (IsWanted self.old) (IsUnlimited self.old) self.old.bytes piece.now offset part }
         ensures limit { (offset : ℕ) (part : part_type)
-            → (result ≡ SectionStep.Limit offset part) ↔ IsLimitAt self.old piece.now offset part }
+            → (result ≡ SectionStep.Limit offset part)
+            ↔ IsLimit (IsWanted self.old) (IsUnlimited self.old) self.old.bytes piece.now offset part }
 
         // The same by cases, as an arm of a caller's `match` reads it.
         ensures shows { Shows self.old piece.now result }
@@ -136,7 +139,7 @@ impl SectionReader {
     /// The part of the next byte.
     pub fn next_part(&self) -> Part
         requires { self.now.stage ≡ reading }
-        ensures { IsNextPart self.now.limits self.now.form self.now.place self.now.bytes result }
+        ensures { IsNext (IsWanted self.now) self.now.bytes result }
     {
         self.walk.phase.part()
     }

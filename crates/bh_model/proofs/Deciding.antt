@@ -4,14 +4,13 @@ use Rattle.std.specs.Prelude.{◌⊎◌, All, IsTrue, IsFalse, slice_index, nat_
 use Rattle.std.proofs.Math.Logic.{∥∥₁_elim}
 use Rattle.std.proofs.lemmas.Bool.{false≢true}
 use Rattle.std.proofs.lemmas.List.Elements.{All-nil, All-cons, All-head, All-tail}
-use Rattle.bh_spec.specs.Bytes.{is_letter, is_token, is_scheme, is_authority, is_path, is_value, is_blank, lower}
+use Rattle.bh_spec.specs.Bytes.{AreBytes, is_letter, is_token, is_scheme, is_authority, is_path, is_value, is_blank, lower}
 use Rattle.bh_spec.specs.Messages.{Field, Control, IsToken, IsPseudo, IsValue, IsScheme, IsValid, Message}
 use Rattle.bh_model.specs.declared.field.Place.TheVariants.{Header, Trailer}
 use Rattle.bh_model.specs.declared.messages.Start as begun
 use Rattle.bh_model.specs.Lines.{FieldsView}
 use Rattle.bh_model.specs.Rules.{Rule, IsControlName, method_rule, scheme_rule, authority_rule, path_rule, status_rule, name_rule, value_rule, ended_rule, IsKept, AreKept, IsWebPath, IsPath}
 use Rattle.bh_model.specs.Held.{message_of, IsMessage}
-use Rattle.bh_spec.proofs.Prefixes.{AreBytes}
 use Rattle.bh_model.proofs.MessageLemmas.{rules_of, message_from_kept, kept_from_message}
 
 abbrev Decided : Type 0 → Type 0

@@ -1,5 +1,6 @@
 -- Laws about the rules; src/laws.rt states each as a function.
 use Rattle.std.specs.Prelude.{ℕ, ◌≡◌, ◌<◌, ◌↔◌, List, All}
+use Rattle.bh_spec.specs.Bytes.{AreBytes}
 use Rattle.bh_spec.specs.declared.Part.{Part}
 use Rattle.bh_model.specs.declared.control_data.Control.{Control}
 use Rattle.bh_model.specs.declared.informational.Interim.{Interim}
@@ -9,12 +10,12 @@ use Rattle.bh_model.specs.Values.{control_of, IsGoodRequest, IsGoodResponse}
 
 abbrev pub RequestRules : Type 0
 RequestRules =
-    (control : Control) (fields : FieldsView) (content : List ℕ) (trailers : FieldsView) → All (λ byte. byte < 256) content
+    (control : Control) (fields : FieldsView) (content : List ℕ) (trailers : FieldsView) → AreBytes content
     → AreKept (request_rules (control_of control) fields trailers) ↔ IsGoodRequest control fields content trailers
 
 abbrev pub ResponseRules : Type 0
 ResponseRules =
-    (interims : List Interim) (status : ℕ) (fields : FieldsView) (content : List ℕ) (trailers : FieldsView) → All (λ byte. byte < 256) content
+    (interims : List Interim) (status : ℕ) (fields : FieldsView) (content : List ℕ) (trailers : FieldsView) → AreBytes content
     → AreKept (response_rules interims status fields trailers) ↔ IsGoodResponse interims status fields content trailers
 
 abbrev pub OneFirstBroken : Type 0

@@ -305,15 +305,7 @@ pub input_too_long : InputTooLong
 input_too_long = record {
   limit = refl;
   more = omega arith;
-  viable = record {
-    message = get [];
-    omitted = Both;
-    padding = 0;
-    text = get_text;
-    after = [];
-    spelled = under_input (Some 15);
-    begins = refl;
-  };
+  viable = record { text = get_text; after = []; spelled = (get [], Both, 0, under_input (Some 15)); begins = refl };
 }
 
 -- ---- chunked content

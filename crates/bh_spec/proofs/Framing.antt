@@ -137,27 +137,31 @@ viable_if L byte rest h s =
     let number = mark parts.Framing (vi n w) in
     let is : n ≡ framing (kind_of m.message.start) f.form = sym f.same ∙ ap (λ (k : Kind). framing k f.form) (sym m.is_kind) in
     record {
-      message = m.message;
-      omitted = Nothing;
-      padding = 0;
       text = number ++ m.text;
       after = s.2.1.0 ++ bytes_of m.text;
-      spelled = record {
-        valid = m.valid;
-        form = f.form;
-        text = (number, m.text, subst (λ (k : ℕ). IsNumber parts.Framing k number) is (record { width = w; fits = s.2.0; spelled = refl }), m.after, refl);
-      };
+      spelled = (
+        m.message,
+        Nothing,
+        0,
+        record {
+          valid = m.valid;
+          form = f.form;
+          text = (number, m.text, subst (λ (k : ℕ). IsNumber parts.Framing k number) is (record { width = w; fits = s.2.0; spelled = refl }), m.after, refl);
+        },
+      );
       begins = number_back parts.Framing n w m.text (byte ∷ rest) s.2;
     }
 
 begins_if : (L : Bounds) (byte : ℕ) (rest : List ℕ) → length rest < byte_count (width_of byte) → IsViable L (byte ∷ rest) → SomeBegins zero_to_three (byte ∷ rest)
 begins_if L byte rest within v =
-    let text = v.spelled.text in
-    let n = framing (kind_of v.message.start) v.spelled.form in (
+    let spells = v.spelled.3 in
+    let text = spells.text in
+    let kind = kind_of v.spelled.0.start in
+    let n = framing kind spells.form in (
       n,
       text.2.width,
       number_front parts.Framing n text.0 text.1 byte rest v.after text.2 within (sym (ap bytes_of text.4) ∙ v.begins),
-      inr ((omega arith, framing_small (kind_of v.message.start) v.spelled.form), tt),
+      inr ((omega arith, framing_small kind spells.form), tt),
     )
 
 pub framing_alive : FramingAlive
@@ -177,12 +181,9 @@ dead_first L v = dead_number (begins_if L 0x41 [] (omega arith) v)
 
 nothing_viable : IsViable defaults []
 nothing_viable = record {
-  message = get [];
-  omitted = Both;
-  padding = 0;
   text = get_text;
   after = _;
-  spelled = get_spelled;
+  spelled = (get [], Both, 0, get_spelled);
   begins = refl;
 }
 
@@ -203,13 +204,10 @@ first_part L m o z t h =
     let number = h.text.2 in
     let x = opens number.width (framing (kind_of m.start) h.form) h.text.0 number.spelled in
     record {
-      message = m;
-      omitted = o;
-      padding = z;
       before = [];
       byte = x.byte;
       after = x.more ++ h.text.1;
-      spelled = subst (Spells L m o z) (h.text.4 ∙ ap (λ (y : Text). y ++ h.text.1) x.same) h;
+      spelled = (m, o, z, subst (Spells L m o z) (h.text.4 ∙ ap (λ (y : Text). y ++ h.text.1) x.same) h);
       begins = refl;
     }
 

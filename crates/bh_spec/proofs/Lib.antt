@@ -1,6 +1,7 @@
 pub mod Meeting
 pub mod Numbers
 pub mod Marks
+pub mod Pieces
 pub mod Within
 pub mod Agreement
 pub mod Sections

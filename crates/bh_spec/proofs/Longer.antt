@@ -112,10 +112,10 @@ some_next_of : (L : Bounds) (bytes : List ℕ) (m : Message) (o : Omitted) (z : 
     → (part : Part) × NextPart L bytes part
 some_next_of L bytes m o z t [] h e =
     let l = longer L m o z t h in
-    (l.part, record { message = m; omitted = l.omitted; padding = l.padding; before = t; byte = 0; after = []; spelled = l.spelled; begins = e ∙ append-nil bytes })
+    (l.part, record { before = t; byte = 0; after = []; spelled = (m, l.omitted, l.padding, l.spelled); begins = e ∙ append-nil bytes })
 some_next_of L bytes m o z t (y ∷ ys) h e =
     let c = cut t bytes y ys e in
-    (c.part, record { message = m; omitted = o; padding = z; before = c.before; byte = y; after = c.after; spelled = subst (Spells L m o z) c.same h; begins = c.begins })
+    (c.part, record { before = c.before; byte = y; after = c.after; spelled = (m, o, z, subst (Spells L m o z) c.same h); begins = c.begins })
 
 pub some_next : SomeNext
-some_next L bytes h = some_next_of L bytes h.message h.omitted h.padding h.text h.after h.spelled h.begins
+some_next L bytes h = some_next_of L bytes h.spelled.0 h.spelled.1 h.spelled.2 h.text h.after h.spelled.3 h.begins

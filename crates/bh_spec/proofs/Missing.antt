@@ -26,24 +26,18 @@ cut = 0x00 ∷ get_bytes
 
 viable : IsViable defaults cut
 viable = record {
-  message = get [];
-  omitted = Both;
-  padding = 0;
   text = get_text;
   after = 0x00 ∷ [];
-  spelled = get_spelled;
+  spelled = (get [], Both, 0, get_spelled);
   begins = refl;
 }
 
 next : NextPart defaults cut parts.SectionLength
 next = record {
-  message = get [];
-  omitted = Both;
-  padding = 0;
   before = mark parts.Framing (0x00 ∷ []) ++ request_text;
   byte = 0x00;
   after = [];
-  spelled = get_spelled;
+  spelled = (get [], Both, 0, get_spelled);
   begins = refl;
 }
 

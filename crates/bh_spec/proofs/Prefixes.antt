@@ -1,5 +1,5 @@
 -- The bytes that begin a number leave an interval.
-use Rattle.std.proofs.Common.{◌≡◌, ◌<◌, ◌≤◌, ◌+◌, ◌-◌, ◌*◌, ◌/◌, ◌%◌, ◌^◌, arith, ℕ, zero, suc, min, max, List, [], ◌∷◌, ◌++◌, length, All, Option, Some, None, refl, sym, ap, ap₂, subst, ◌∙◌, inl, inr, pow-suc, mul_comm, mod-eq_of_lt, mul-le-mul_right}
+use Rattle.std.proofs.Common.{◌≡◌, ◌<◌, ◌≤◌, ◌+◌, ◌-◌, ◌*◌, ◌/◌, ◌%◌, ◌^◌, arith, ℕ, zero, suc, min, max, List, [], ◌∷◌, ◌++◌, length, Option, Some, None, refl, sym, ap, ap₂, subst, ◌∙◌, inl, inr, pow-suc, mul_comm, mod-eq_of_lt, mul-le-mul_right}
 use Rattle.std.specs.Int.{byte_at, bytes_high_first}
 use Rattle.std.proofs.Math.Nat.{pow-le-pow_right}
 use Rattle.std.proofs.Math.Arith.{mod-mul, digits_lt}
@@ -7,6 +7,7 @@ use Rattle.std.proofs.lemmas.Nat.{same_from_place, pow-add}
 use Rattle.std.proofs.lemmas.Bool.{cases_lt, lt-ltb, le-ltb}
 use Rattle.std.proofs.lemmas.List.{length-append}
 use Rattle.std.proofs.lemmas.List.Elements.{All-head, All-tail, All-nil, All-cons, All-append}
+use Rattle.bh_spec.specs.Bytes.{AreBytes}
 use Rattle.bh_spec.specs.declared.Allowed.{Allowed}
 use Rattle.bh_spec.specs.declared.Rest.{Rest}
 use Rattle.bh_spec.specs.declared.Width.{Width}
@@ -15,9 +16,6 @@ use Rattle.bh_spec.specs.Integers.{vi, limit_of, tag_of, byte_count, Leaves, IsA
 use Rattle.bh_spec.specs.Intervals.{big, width_of, missing, least_begun, Left, IsAlive}
 use Rattle.bh_spec.specs.Alive.{AliveByInterval}
 use Rattle.bh_spec.proofs.Widths.{length-vi}
-
-abbrev pub AreBytes : List ℕ → Type 0
-AreBytes xs = All (λ x. x < 256) xs
 
 pub some_256 : (k : ℕ) → 0 < 256 ^ k
 some_256 k = pow-le-pow_right {n = 256} (omega arith) {i = 0} {j = k} (omega arith)

@@ -54,7 +54,7 @@ back L done left fields f t after line room h = record {
 }
 
 pub line_step : LineStep
-line_step L done left fields f t after named line = (
+line_step L done left fields f t after line = (
   λ h. forth L done left fields f t after line h.more h.text h.lines h.fill h.spelled h.whole h,
   λ h. back L done left fields f t after line h.0 h.1,
 )

@@ -243,7 +243,9 @@ one_reading K L m n o p y z bytes a b =
 
 pub one_next : OneNext
 one_next K L bytes p q a b =
-    meets_next (Unit {0}) (Same a.message b.message a.omitted b.omitted a.padding b.padding) a.before b.before (p, a.byte) (q, b.byte) a.after b.after
-    (message_meets K L a.message b.message a.omitted b.omitted a.padding b.padding
-    (a.before ++ ((p, a.byte) ∷ a.after)) (b.before ++ ((q, b.byte) ∷ b.after)) a.spelled b.spelled)
+    let x = a.spelled in
+    let y = b.spelled in
+    meets_next (Unit {0}) (Same x.0 y.0 x.1 y.1 x.2 y.2) a.before b.before (p, a.byte) (q, b.byte) a.after b.after
+    (message_meets K L x.0 y.0 x.1 y.1 x.2 y.2
+    (a.before ++ ((p, a.byte) ∷ a.after)) (b.before ++ ((q, b.byte) ∷ b.after)) x.3 y.3)
     (a.begins ∙ sym b.begins)

@@ -1,5 +1,6 @@
 -- Which bytes begin a number, and what a line takes of a section.
 use Rattle.std.specs.Prelude.{ℕ, ◌≡◌, ◌<◌, ◌+◌, ◌-◌, ◌^◌, ◌↔◌, ◌≤◌, false, None, List, [], ◌∷◌, ◌++◌, length, All}
+use Rattle.bh_spec.specs.Bytes.{AreBytes}
 use Rattle.bh_spec.specs.declared.Allowed.{Allowed}
 use Rattle.bh_spec.specs.Integers.{byte_count, SomeBegins}
 use Rattle.bh_spec.specs.Intervals.{IsAlive, least_begun, missing, width_of}
@@ -11,7 +12,7 @@ use Rattle.bh_spec.specs.Viable.{IsViable}
 
 -- Some allowed number begins with the bytes exactly where one in the interval that they leave is allowed.
 abbrev pub AliveByInterval : Type 0
-AliveByInterval = (set : Allowed) (byte : ℕ) (rest : List ℕ) → All (λ x. x < 256) (byte ∷ rest) → length rest < byte_count (width_of byte)
+AliveByInterval = (set : Allowed) (byte : ℕ) (rest : List ℕ) → AreBytes (byte ∷ rest) → length rest < byte_count (width_of byte)
     → SomeBegins set (byte ∷ rest)
     ↔ IsAlive set (byte_count (width_of byte)) (least_begun byte rest) (least_begun byte rest + 256 ^ missing byte rest - 1)
 
@@ -35,6 +36,6 @@ pub record SectionRest (L : Bounds) (done : List Field) (left : ℕ) (fields : L
 
 -- One line takes its bytes and adds its field.
 abbrev pub LineStep : Type 0
-LineStep = (L : Bounds) (done : List Field) (left : ℕ) (fields : List Field) (field : Field) (t : Text) (after : List ℕ) → 0 < length field.name → IsLine field t
+LineStep = (L : Bounds) (done : List Field) (left : ℕ) (fields : List Field) (field : Field) (t : Text) (after : List ℕ) → IsLine field t
     → SectionRest L done left fields (bytes_of t ++ after)
     ↔ ((length t ≤ left) × SectionRest L (done ++ (field ∷ [])) (left - length t) fields after)

@@ -1,6 +1,10 @@
 -- Classes of bytes, and the lower case of ASCII letters.
-use Rattle.std.specs.Prelude.{ℕ, Bool, false, ◌||◌, ◌&&◌, not, nat_eq, nat_lt, nat_le, List, [], ◌∷◌, map, codes}
+use Rattle.std.specs.Prelude.{ℕ, Bool, false, ◌||◌, ◌&&◌, not, nat_eq, nat_lt, nat_le, List, [], ◌∷◌, map, codes, All, ◌<◌}
 use Rattle.std.specs.Char.{to_ascii_lowercase}
+
+-- numbers that are bytes
+abbrev pub AreBytes : List ℕ → Type 0
+AreBytes numbers = All (λ number. number < 256) numbers
 
 abbrev pub is_from_to : ℕ → ℕ → ℕ → Bool
 is_from_to low high byte = nat_le low byte && nat_le byte high

@@ -5,6 +5,7 @@ pub mod Bounds
 pub mod Bytes
 pub mod Messages
 pub mod Texts
+pub mod Pieces
 pub mod Sections
 pub mod Tails
 pub mod Spelling

@@ -2,7 +2,7 @@
 use Rattle.std.specs.Prelude.{ℕ, ◌≡◌, ◌<◌, ◌≤◌, ◌⊎◌, List, ◌∷◌, ◌++◌, length, All, codes, IsTrue, IsFalse, slice_index, ◌-◌}
 use Rattle.bh_spec.specs.declared.Kind.{Kind}
 use Rattle.bh_spec.specs.declared.Kind.TheVariants.{Request, Response}
-use Rattle.bh_spec.specs.Bytes.{is_letter, is_token, is_scheme, is_authority, is_path, is_value, is_blank, lower}
+use Rattle.bh_spec.specs.Bytes.{AreBytes, is_letter, is_token, is_scheme, is_authority, is_path, is_value, is_blank, lower}
 
 pub record Field : Type 0 where
   pub name : List ℕ
@@ -101,5 +101,5 @@ IsStart (response interims status) = IsResponse interims status
 pub record IsValid (m : Message) : Type 0 where
   pub start : IsStart m.start
   pub fields : AreHeaders m.fields
-  pub content : All (λ byte. byte < 256) m.content
+  pub content : AreBytes m.content
   pub trailers : AreTrailers m.trailers

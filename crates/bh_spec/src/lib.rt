@@ -180,7 +180,7 @@ pub fn framing_alive()
     ensures { FramingAlive }
 {}
 
-/// In a known-length section a line with a name takes its bytes and adds its field.
+/// In a known-length section a line takes its bytes and adds its field.
 pub fn line_step()
     ensures { LineStep }
 {}

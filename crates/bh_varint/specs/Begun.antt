@@ -1,6 +1,7 @@
 -- What is stored of the first bytes of an integer.
 use Rattle.std.specs.Prelude.{ℕ, ◌≡◌, ◌<◌, ◌≤◌, ◌+◌, ◌-◌, ◌*◌, ◌^◌, ◌%◌, List, [], ◌∷◌, length, All, Option, Some, None}
 use Rattle.std.specs.Int.{bytes_high_first}
+use Rattle.bh_spec.specs.Bytes.{AreBytes}
 use Rattle.bh_spec.specs.Integers.{byte_count, tag_of}
 use Rattle.bh_spec.specs.Intervals.{big, width_of}
 use Rattle.bh_varint.specs.declared.Begun.{Begun}
@@ -29,7 +30,7 @@ pub record Reads (bytes : List ℕ) (b : Begun) : Type 0 where
   pub first : ℕ
   pub rest : List ℕ
   pub parts : bytes ≡ first ∷ rest
-  pub each : All (λ x. x < 256) (first ∷ rest)
+  pub each : AreBytes (first ∷ rest)
   pub long : length bytes ≡ b.count
   pub fits : b.count ≤ byte_count b.width
   pub shows : width_of first ≡ b.width

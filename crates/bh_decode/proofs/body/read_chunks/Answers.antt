@@ -2,9 +2,9 @@ use Rattle.std.proofs.Common.{◌+◌, ℕ, List, [], drop, arith, sym, subst, �
 use Rattle.std.proofs.lemmas.Result.{err_from_is_err_and}
 use Rattle.bh_spec.specs.declared.Part.TheVariants as parts
 use Rattle.bh_spec.specs.declared.Form.TheVariants as forms
-use Rattle.bh_control.specs.Pieces.{Ends}
+use Rattle.bh_spec.specs.Pieces.{SomeOf, Ends}
 use Rattle.bh_decode.specs.Grammar.{RunOf, BodyOf}
-use Rattle.bh_decode.specs.Stops.{SomeOf, StopsThing}
+use Rattle.bh_decode.specs.Stops.{StopsThing}
 use Rattle.bh_decode.proofs.Runs.{run_long}
 use Rattle.bh_decode.proofs.Chunks.{Chunked, chunked_more, chunks_ended, chunks_stop, is_none, is_some}
 use Rattle.bh_decode.proofs.body.read_chunks.Goals as goal

@@ -1,9 +1,9 @@
 use Rattle.std.proofs.Common.{ℕ, List, [], take, drop, subst, take-append-drop}
 use Rattle.std.proofs.lemmas.Result.{err_from_is_err_and}
 use Rattle.bh_spec.specs.declared.Part.TheVariants as parts
-use Rattle.bh_control.specs.Pieces.{Ends}
+use Rattle.bh_spec.specs.Pieces.{SomeOf, Ends}
 use Rattle.bh_decode.specs.Grammar.{ContentOf, RunOf}
-use Rattle.bh_decode.specs.Stops.{SomeOf, IsCutThing}
+use Rattle.bh_decode.specs.Stops.{IsCutThing}
 use Rattle.bh_decode.proofs.Runs.{run_ends, length_stops, content_stops}
 use Rattle.bh_decode.proofs.content.read_run.Goals as goal
 

@@ -1,7 +1,7 @@
 use Rattle.std.proofs.Common.{ℕ, List, drop, subst, ◌∙◌}
 use Rattle.std.proofs.lemmas.Result.{err_from_is_err_and}
 use Rattle.bh_spec.specs.Bounds.{Bounds, no_bounds}
-use Rattle.bh_control.specs.Pieces.{IsText}
+use Rattle.bh_spec.specs.Pieces.{IsText}
 use Rattle.bh_decode.specs.Grammar.{IsRestText, RestOf}
 use Rattle.bh_decode.specs.Stops.{Stops, AtStop}
 use Rattle.bh_decode.proofs.Heads.{headers_stop, rest_fault, parts_whole}

@@ -2,7 +2,7 @@ use Rattle.std.proofs.Common.{◌++◌, ◌∷◌, [], ℕ, List, get_or, arith,
 use Rattle.bh_spec.specs.Integers.{SomeBegins}
 use Rattle.bh_varint.specs.Step.{IsUnfinished}
 use Rattle.bh_varint.proofs.Reading.{unfinished_nil}
-use Rattle.bh_control.proofs.Pieces.{next_taken, all_taken}
+use Rattle.bh_spec.proofs.Pieces.{next_taken, all_taken}
 use Rattle.bh_decode.proofs.Numbers.{up_to, nothing_begins, number_whole, number_dead, number_ended}
 use Rattle.bh_decode.proofs.number.read_number.Goals as goal
 

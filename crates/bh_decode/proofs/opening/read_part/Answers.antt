@@ -4,10 +4,10 @@ use Rattle.bh_spec.specs.Bounds.{IsWithin, no_bounds}
 use Rattle.bh_spec.specs.Messages.{Field}
 use Rattle.bh_model.specs.declared.field.Place.TheVariants.{Header}
 use Rattle.bh_fields.specs.Sections.{SectionOf}
-use Rattle.bh_control.specs.Pieces.{Ends}
+use Rattle.bh_spec.specs.Pieces.{SomeOf, Ends}
 use Rattle.bh_control.specs.Statuses.{StatusOf}
 use Rattle.bh_decode.specs.Grammar.{status_left}
-use Rattle.bh_decode.specs.Stops.{SomeOf, StopsThing}
+use Rattle.bh_decode.specs.Stops.{StopsThing}
 use Rattle.bh_decode.proofs.Fronts.{ends_then}
 use Rattle.bh_decode.proofs.Openings.{status_stop, interim_stop}
 use Rattle.bh_decode.proofs.opening.read_part.Goals as goal

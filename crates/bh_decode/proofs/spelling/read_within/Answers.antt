@@ -2,7 +2,7 @@ use Rattle.std.proofs.Common.{sym, subst}
 use Rattle.bh_spec.specs.declared.Refusal.{Refusal}
 use Rattle.bh_spec.specs.Answers.{refused, IsAnswer}
 use Rattle.bh_spec.specs.Bounds.{no_bounds}
-use Rattle.bh_decode.specs.Grammar.{IsMessageText}
+use Rattle.bh_spec.specs.Viable.{IsMessageText}
 use Rattle.bh_decode.specs.Stops.{Stops, AtStop}
 use Rattle.bh_decode.proofs.Stopped.{stop_answers}
 use Rattle.bh_decode.proofs.spelling.read_within.Goals as goal

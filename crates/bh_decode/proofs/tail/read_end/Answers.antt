@@ -2,7 +2,7 @@ use Rattle.std.proofs.Common.{ℕ, List, replicate, subst, ◌∙◌}
 use Rattle.std.proofs.lemmas.Result.{err_from_is_err_and}
 use Rattle.bh_spec.specs.declared.Part.TheVariants as parts
 use Rattle.bh_spec.specs.Texts.{IsRun}
-use Rattle.bh_control.specs.Pieces.{IsText}
+use Rattle.bh_spec.specs.Pieces.{IsText}
 use Rattle.bh_decode.specs.Grammar.{IsPaddingText}
 use Rattle.bh_decode.specs.Stops.{Stops}
 use Rattle.bh_decode.proofs.Tails.{trailers_stop, padding_stop, end_whole}

@@ -2,7 +2,7 @@ use Rattle.std.proofs.Common.{◌≤◌, ℕ, List, length, drop, sym, ap, subst
 use Rattle.std.proofs.lemmas.Result.{err_from_is_err_and}
 use Rattle.bh_spec.specs.Bounds.{no_bounds}
 use Rattle.bh_model.specs.Lines.{FieldsView}
-use Rattle.bh_control.specs.Pieces.{IsText}
+use Rattle.bh_spec.specs.Pieces.{IsText}
 use Rattle.bh_decode.specs.Grammar.{IsEndText, EndOf}
 use Rattle.bh_decode.specs.Stops.{Stops, AtStop}
 use Rattle.bh_decode.proofs.Chunks.{is_none, is_some}

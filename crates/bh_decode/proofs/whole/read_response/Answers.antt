@@ -2,7 +2,7 @@ use Rattle.std.proofs.Common.{ℕ, List, [], take, drop, map, subst, ◌∙◌}
 use Rattle.std.proofs.lemmas.Result.{err_from_is_err_and}
 use Rattle.bh_spec.specs.Bounds.{Bounds, no_bounds}
 use Rattle.bh_model.specs.Values.{interim_of}
-use Rattle.bh_control.specs.Pieces.{IsText, Ends}
+use Rattle.bh_spec.specs.Pieces.{IsText, Ends}
 use Rattle.bh_decode.specs.Contexts.{Context}
 use Rattle.bh_decode.specs.Grammar.{IsResponseText, IsAfterStart, AfterOf}
 use Rattle.bh_decode.specs.Responses.{OpeningOf}

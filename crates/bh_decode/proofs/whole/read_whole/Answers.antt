@@ -1,7 +1,7 @@
 use Rattle.std.proofs.Common.{ℕ, List, Option, sym, subst, arith}
 use Rattle.std.proofs.lemmas.Result.{err_from_is_err_and}
 use Rattle.bh_spec.specs.Bounds.{IsWithin, no_bounds}
-use Rattle.bh_control.specs.Pieces.{IsText}
+use Rattle.bh_spec.specs.Pieces.{IsText}
 use Rattle.bh_decode.specs.Grammar.{IsAfterFraming, FramedOf}
 use Rattle.bh_decode.specs.Stops.{Stops, AtStop}
 use Rattle.bh_decode.proofs.Messages.{framing_stop, framed_fault, message_whole}

@@ -1,7 +1,7 @@
 use Rattle.std.proofs.Common.{◌∙◌, vec_capacity, ap, sym, subst}
 use Rattle.bh_spec.specs.declared.Part.{Part}
 use Rattle.bh_control.specs.Control.{ControlState, IsControlText}
-use Rattle.bh_control.specs.Pieces.{IsNext}
+use Rattle.bh_spec.specs.Pieces.{IsNext}
 use Rattle.bh_control.proofs.Controls.{stage_reading, sound_next}
 use Rattle.bh_control.proofs.control.ControlReader.next_part.Goals as goal
 

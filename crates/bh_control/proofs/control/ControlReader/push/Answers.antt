@@ -2,12 +2,12 @@ use Rattle.std.proofs.Common.{◌≡◌, ◌+◌, length, get_or, vec_len, vec_c
 use Rattle.bh_spec.specs.declared.Part.{Part}
 use Rattle.bh_spec.specs.Bounds.{Bounds}
 use Rattle.bh_control.specs.declared.control.ControlStep.TheVariants as answer
-use Rattle.bh_control.specs.Pieces.{IsText}
+use Rattle.bh_spec.specs.Pieces.{IsText}
 use Rattle.bh_control.specs.Control.{ControlState, ControlOf, AnswersControl}
 use Rattle.bh_control.specs.Phases.{part_now}
 use Rattle.bh_control.specs.Sound.{stage_of}
 use Rattle.bh_control.specs.Stored.{control_in}
-use Rattle.bh_control.proofs.Pieces.{next_taken, all_taken}
+use Rattle.bh_spec.proofs.Pieces.{next_taken, all_taken}
 use Rattle.bh_control.proofs.Controls.{stage_reading, reading_stage, reading_live, open_reading, open_live, few_kept, sound_room, sound_pushed, AtByte, dead_said, limit_said, need_said, whole_said, values_said, exactly}
 use Rattle.bh_control.proofs.control.ControlReader.push.Goals as goal
 

@@ -64,12 +64,12 @@ returns c =
     let i = c.loop-offset.invariant in
     let on : IsOn v c.loop-offset.self piece c.loop-offset.offset = record { limits = i.limits; form = i.form; place = i.place; bytes = i.bytes } in
     let step : SectionStep = Need in
-    let shows : Shows v piece step = need_shows v piece c.loop-offset.offset c.loop-offset.part (omega arith) i.next in
+    let shows : Shows v piece step = need_shows v piece c.loop-offset.offset c.loop-offset.part (omega arith) (omega arith) i.next in
     record {
       need = exactly v piece step Need shows;
       whole = λ taken. exactly v piece step (Whole taken) shows;
       dead = λ offset part. exactly v piece step (Dead offset part) shows;
       limit = λ offset part. exactly v piece step (Limit offset part) shows;
       shows = shows;
-      behind = need_behind v c.loop-offset.self piece c.loop-offset.offset (omega arith) on i.stage;
+      behind = need_behind v c.loop-offset.self piece c.loop-offset.offset (omega arith) (omega arith) on i.stage;
     }

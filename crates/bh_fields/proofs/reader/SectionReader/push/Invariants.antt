@@ -1,5 +1,6 @@
 use Rattle.std.proofs.Common.{◌≡◌, ◌++◌, take}
-use Rattle.bh_fields.specs.Sections.{IsNextPart}
+use Rattle.bh_spec.specs.Pieces.{IsNext}
+use Rattle.bh_fields.specs.Sections.{IsSectionText}
 use Rattle.bh_fields.specs.Views.{reading}
 use Rattle.bh_fields.proofs.reader.SectionReader.push.Given as goal
 
@@ -10,5 +11,5 @@ invariant-loop-offset l = record {
   place : l.self.place ≡ l.fn.self.place;
   stage : l.self.stage ≡ reading;
   bytes : l.self.bytes ≡ l.fn.self.bytes ++ take l.offset l.piece;
-  next : IsNextPart l.fn.self.limits l.fn.self.form l.fn.self.place (l.fn.self.bytes ++ take l.offset l.piece) l.part;
+  next : IsNext (IsSectionText l.fn.self.limits l.fn.self.form l.fn.self.place) (l.fn.self.bytes ++ take l.offset l.piece) l.part;
 }

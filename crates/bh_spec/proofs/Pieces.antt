@@ -8,13 +8,13 @@ use Rattle.bh_spec.specs.Texts.{Text, bytes_of}
 use Rattle.bh_spec.proofs.Meeting.{meets_front, meets_next}
 use Rattle.bh_spec.proofs.Agreement.{Agree}
 use Rattle.bh_spec.proofs.Marks.{bytes_of-append}
-use Rattle.bh_control.specs.Pieces.{IsText, CanBecome, IsNext, Ends, GoesOn, IsRefused, IsDead, IsLimit}
+use Rattle.bh_spec.specs.Pieces.{IsText, CanBecome, IsNext, Ends, GoesOn, IsRefused, IsDead, IsLimit}
 
 -- no text of the kind begins another
 abbrev pub IsOnce : (Text → Type 0) → Type 0
 IsOnce R = Agree ⊥ (Unit {0}) R R
 
-front_becomes : (R : Text → Type 0) (front more bytes : List ℕ) → bytes ≡ front ++ more → CanBecome R bytes → CanBecome R front
+pub front_becomes : (R : Text → Type 0) (front more bytes : List ℕ) → bytes ≡ front ++ more → CanBecome R bytes → CanBecome R front
 front_becomes R front more bytes e h = record {
   text = h.text;
   after = more ++ h.after;

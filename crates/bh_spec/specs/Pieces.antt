@@ -3,6 +3,10 @@ use Rattle.std.specs.Prelude.{ℕ, ◌≡◌, ◌<◌, ◌≤◌, ◌+◌, List,
 use Rattle.bh_spec.specs.declared.Part.{Part}
 use Rattle.bh_spec.specs.Texts.{Text, bytes_of}
 
+-- a text of one of several things
+abbrev pub SomeOf : {I : Type 0} → (I → Text → Type 0) → Text → Type 0
+SomeOf {I} A t = (i : I) × A i t
+
 -- the bytes are a text of the kind
 pub record IsText (R : Text → Type 0) (bytes : List ℕ) : Type 0 where
   pub text : Text
