@@ -5,6 +5,7 @@ use Rattle.bh_spec.specs.declared.Summary.{Summary}
 use Rattle.bh_spec.specs.declared.Refusal.{Refusal}
 use Rattle.bh_spec.specs.Bounds.{Bounds, IsWithin}
 use Rattle.bh_spec.specs.Answers.{refused, IsAnswer}
+use Rattle.bh_model.specs.Ranges.{AreLimits}
 use Rattle.bh_base.specs.declared.failed.Failed.{Failed}
 use Rattle.bh_base.specs.Steps.{Rose, ReadFacts, WriteFacts, ReadLeaves, WriteLeaves, Entry, ReadChain, WriteChain, both}
 use Rattle.bh_base.proofs.Chains.{read_chain, write_chain, read_chain_leaves, write_chain_leaves, reads_are_chain, writes_are_chain}
@@ -145,15 +146,16 @@ module _ (L : Bounds) {S : Type 0} {reads writes : S → Bool → Result ℕ Fai
   abbrev Gathered : ℕ → List ℕ → S → S → Type 0
   Gathered limit bytes s m = (met : Bool) × ReadChain reads s bytes met m × (read_faults m ≡ read_faults s) × IsEnough limit bytes met
 
-  pub facts_done : {s m t : S} (bytes text : List ℕ) (summary : Summary) (limit : ℕ) → L.input ≡ Some limit → Gathered limit bytes s m
+  pub facts_done : {s m t : S} (bytes text : List ℕ) (summary : Summary) (limit : ℕ) → L.input ≡ Some limit → AreLimits L → Gathered limit bytes s m
       → IsCanon L bytes summary text → WriteChain writes m text t → write_faults t ≡ write_faults m
       → CanonFacts L reads writes left sent read_faults write_faults s (Done summary) t
-  facts_done bytes text summary limit e got canon sends quiet =
+  facts_done bytes text summary limit e l got canon sends quiet =
       let d = decided L bytes got.0 limit e got.3 in
       let chain = ends_whole bytes text summary got.0 d.0 canon got.1 in
       let rl = read_chain_leaves read_law read_leaves chain in
       let wl = write_chain_leaves write_law write_leaves sends in
       record {
+        limits = l;
         chain = then_written L (Done summary) bytes text chain sends d.1 (refl, canon);
         told = told_done bytes text summary chain sends canon;
         read_fault = λ e. absurd (cc);
@@ -162,16 +164,17 @@ module _ (L : Bounds) {S : Type 0} {reads writes : S → Bool → Result ℕ Fai
         quiet_writes = λ no. quiet ∙ rl.same_faults;
       }
 
-  pub facts_cut : {s m t : S} (bytes whole front back : List ℕ) (summary : Summary) (limit : ℕ) → L.input ≡ Some limit → Gathered limit bytes s m
+  pub facts_cut : {s m t : S} (bytes whole front back : List ℕ) (summary : Summary) (limit : ℕ) → L.input ≡ Some limit → AreLimits L → Gathered limit bytes s m
       → IsCanon L bytes summary whole → whole ≡ front ++ back → WriteChain writes m front t → Rose (write_faults m) (write_faults t)
       → CanonFacts L reads writes left sent read_faults write_faults s WriteFault t
-  facts_cut {t = t} bytes whole front back summary limit e got canon parts sends rose =
+  facts_cut {t = t} bytes whole front back summary limit e l got canon parts sends rose =
       let d = decided L bytes got.0 limit e got.3 in
       let chain = ends_whole bytes whole summary got.0 d.0 canon got.1 in
       let rl = read_chain_leaves read_law read_leaves chain in
       let wl = write_chain_leaves write_law write_leaves sends in
-      let cut : IsCutCanon L bytes front = record { message = canon.message; omitted = canon.omitted; padding = canon.padding; answer = canon.answer; unsent = back; canonical = sym parts ∙ canon.canonical } in
+      let cut : IsCutCanon L bytes front = record { summary_of = summary; unsent = back; text = subst (λ (x : List ℕ). IsCanon L bytes summary x) parts canon } in
       record {
+        limits = l;
         chain = then_written L WriteFault bytes front chain sends d.1 (refl, cut);
         told = told_cut bytes front chain sends cut;
         read_fault = λ e. absurd (cc);
@@ -180,12 +183,13 @@ module _ (L : Bounds) {S : Type 0} {reads writes : S → Bool → Result ℕ Fai
         quiet_writes = λ no. absurd (no refl);
       }
 
-  pub facts_refused : {s m : S} (bytes : List ℕ) (refusal : Refusal) (limit : ℕ) → L.input ≡ Some limit → Gathered limit bytes s m
+  pub facts_refused : {s m : S} (bytes : List ℕ) (refusal : Refusal) (limit : ℕ) → L.input ≡ Some limit → AreLimits L → Gathered limit bytes s m
       → IsAnswer L bytes (refused refusal) → CanonFacts L reads writes left sent read_faults write_faults s (Refused refusal) m
-  facts_refused bytes refusal limit e got answer =
+  facts_refused bytes refusal limit e l got answer =
       let d = decided L bytes got.0 limit e got.3 in
       let rl = read_chain_leaves read_law read_leaves got.1 in
       record {
+        limits = l;
         chain = only_read L (Refused refusal) bytes got.0 got.1 d.1 (refl, answer, d.0);
         told = told_refused L read_law ended_law read_leaves bytes got.0 refusal got.1 d.0 answer;
         read_fault = λ e. absurd (cc);
@@ -194,13 +198,14 @@ module _ (L : Bounds) {S : Type 0} {reads writes : S → Bool → Result ℕ Fai
         quiet_writes = λ no. rl.same_faults;
       }
 
-  pub facts_fault : {s m : S} (bytes : List ℕ) (limit : ℕ) → L.input ≡ Some limit → ReadChain reads s bytes false m → length bytes ≤ limit → Rose (read_faults s) (read_faults m)
+  pub facts_fault : {s m : S} (bytes : List ℕ) (limit : ℕ) → L.input ≡ Some limit → AreLimits L → ReadChain reads s bytes false m → length bytes ≤ limit → Rose (read_faults s) (read_faults m)
       → CanonFacts L reads writes left sent read_faults write_faults s ReadFault m
-  facts_fault bytes limit e chain low rose =
+  facts_fault bytes limit e l chain low rose =
       let few : IsWithin L.input (length bytes) = subst (λ (o : Option ℕ). IsWithin o (length bytes)) (sym e) low in
       let rl = read_chain_leaves read_law read_leaves chain in
       record {
-        chain = only_read L ReadFault bytes false chain (inl few) (refl, few);
+        limits = l;
+        chain = only_read L ReadFault bytes false chain (inl few) (refl, refl, few);
         told = told_nothing L read_law ended_law read_leaves ReadFault bytes false (inl refl) chain;
         read_fault = λ e. rose;
         write_fault = λ e. absurd (cc);
@@ -208,11 +213,12 @@ module _ (L : Bounds) {S : Type 0} {reads writes : S → Bool → Result ℕ Fai
         quiet_writes = λ no. rl.same_faults;
       }
 
-  pub facts_no_memory : {s m : S} (bytes : List ℕ) (met : Bool) (limit : ℕ) → L.input ≡ Some limit → ReadChain reads s bytes met m → length bytes ≤ limit + 1 → read_faults m ≡ read_faults s
+  pub facts_no_memory : {s m : S} (bytes : List ℕ) (met : Bool) (limit : ℕ) → L.input ≡ Some limit → AreLimits L → ReadChain reads s bytes met m → length bytes ≤ limit + 1 → read_faults m ≡ read_faults s
       → CanonFacts L reads writes left sent read_faults write_faults s NoMemory m
-  facts_no_memory bytes met limit e chain low quiet =
+  facts_no_memory bytes met limit e l chain low quiet =
       let rl = read_chain_leaves read_law read_leaves chain in
       record {
+        limits = l;
         chain = only_read L NoMemory bytes met chain (few_taken L bytes limit e low) refl;
         told = told_nothing L read_law ended_law read_leaves NoMemory bytes met (inr refl) chain;
         read_fault = λ e. absurd (cc);

@@ -1,5 +1,5 @@
 -- What a call of `canon` did, and how it ended.
-use Rattle.std.specs.Prelude.{◌≡◌, ◌+◌, ◌⊎◌, ℕ, Bool, true, List, [], ◌++◌, length, Option, Some, IfSome, Result}
+use Rattle.std.specs.Prelude.{◌≡◌, ◌+◌, ◌⊎◌, ℕ, Bool, true, false, List, [], ◌++◌, length, Option, Some, IfSome, Result}
 use Rattle.std.specs.Io.KnownBytes.{Appends}
 use Rattle.bh_spec.specs.declared.Omitted.{Omitted}
 use Rattle.bh_spec.specs.declared.Summary.{Summary}
@@ -8,6 +8,7 @@ use Rattle.bh_spec.specs.Messages.{Message}
 use Rattle.bh_spec.specs.Answers.{Answer, whole, refused, IsAnswer}
 use Rattle.bh_spec.specs.Canonical.{canon}
 use Rattle.bh_spec.specs.Reports.{summary}
+use Rattle.bh_model.specs.Ranges.{AreLimits}
 use Rattle.bh_base.specs.declared.failed.Failed.{Failed}
 use Rattle.bh_base.specs.Steps.{Chain, Rose}
 use Rattle.bh_canon.specs.declared.engine.CanonEnd.{CanonEnd}
@@ -24,25 +25,23 @@ pub record IsCanon (L : Bounds) (bytes : List ℕ) (s : Summary) (text : List �
 
 -- The bytes are a message within the limits, and these are the first of its canonical text.
 pub record IsCutCanon (L : Bounds) (bytes sent : List ℕ) : Type 0 where
-  pub message : Message
-  pub omitted : Omitted
-  pub padding : ℕ
-  pub answer : IsAnswer L bytes (whole message omitted padding)
+  pub summary_of : Summary
   pub unsent : List ℕ
-  pub canonical : sent ++ unsent ≡ canon message
+  pub text : IsCanon L bytes summary_of (sent ++ unsent)
 
--- one byte more than the limit of the input allows
+-- The bytes are one more than the limit of the input allows.
 pub record IsBeyond (L : Bounds) (bytes : List ℕ) : Type 0 where
   pub limit : ℕ
   pub limit_is : L.input ≡ Some limit
   pub long : length bytes ≡ limit + 1
 
--- What the bytes that a call took, those that it sent, and whether it met the end say of how it ended. A refusal, and every
--- write, come behind the end, or a refusal behind one byte more than the limit allows.
+-- What the bytes that a call took, those that it sent, and whether it met the end say of how it ended. Nothing is sent where
+-- the end wasn't met. A refusal comes where it was met, or where one byte more than the limit allows was taken; and a read
+-- failed before it was met.
 abbrev pub Outcome : Bounds → CanonEnd → List ℕ → List ℕ → Bool → Type 0
 Outcome L (Done s) taken sent met = (met ≡ true) × IsCanon L taken s sent
 Outcome L (Refused refusal) taken sent met = (sent ≡ []) × IsAnswer L taken (refused refusal) × ((met ≡ true) ⊎ IsBeyond L taken)
-Outcome L ReadFault taken sent met = (sent ≡ []) × IsWithin L.input (length taken)
+Outcome L ReadFault taken sent met = (sent ≡ []) × (met ≡ false) × IsWithin L.input (length taken)
 Outcome L WriteFault taken sent met = (met ≡ true) × IsCutCanon L taken sent
 Outcome L NoMemory taken sent met = sent ≡ []
 
@@ -78,12 +77,14 @@ Completes L end input reads_before reads_now writes_before writes_now = (answer 
 abbrev pub IsTold : Bounds → {S : Type 0} → (S → Option (List ℕ)) → (S → Option (List ℕ)) → S → CanonEnd → S → Type 0
 IsTold L left sent s end t = IfSome (left s) (λ input. Told L end input (left t) (sent s) (sent t))
 
+-- Such a port's input says how the call ended.
 abbrev pub IsComplete : Bounds → {S : Type 0} → (S → Option (List ℕ)) → (S → ℕ) → (S → ℕ) → S → CanonEnd → S → Type 0
 IsComplete L left read_faults write_faults s end t = IfSome (left s) (λ input. Completes L end input (read_faults s) (read_faults t) (write_faults s) (write_faults t))
 
--- All of that, and the counts of faults: a fault is the end only where its count rose in this call, and else the count stayed.
+-- All of that, for limits in their ranges, and the counts of faults: a fault is the end only where its count rose in this call, and else the count stayed.
 pub record CanonFacts (L : Bounds) {S : Type 0} (reads writes : S → Bool → Result ℕ Failed → List ℕ → S → Type 0) (left sent : S → Option (List ℕ)) (read_faults write_faults : S → ℕ)
     (s : S) (end : CanonEnd) (t : S) : Type 0 where
+  pub limits : AreLimits L
   pub chain : CanonRun L reads writes s end t
   pub told : IsTold L left sent s end t
   pub read_fault : end ≡ ReadFault → Rose (read_faults s) (read_faults t)

@@ -1,6 +1,7 @@
 //! The engine of `canon`.
 ghost use Rattle.std.specs.Prelude.{◌≡◌, ◌<◌, IfOk, length};
 ghost use Rattle.bh_base.specs.Steps.{Rose};
+ghost use Rattle.bh_model.specs.Ranges.{AreLimits};
 ghost use Rattle.bh_canon.specs.Ends.{CanonFacts, CanonRun, IsTold, IsComplete};
 
 use crate::deciding::decide;
@@ -82,6 +83,7 @@ impl Engine {
     /// more than the limit of the input allows, decides, and then writes. The engine is ready for a new call after every end.
     pub fn canon<P: Port>(&mut self, alloc: Global, port: &mut P) -> CanonEnd
         ensures ready { self.new ≡ self.old }
+        ensures limits { AreLimits self.old }
 
         // What the port gave and got, by the bytes of its calls, and by what it tells of them.
         ensures chain { CanonRun self.old P.read_step P.write_step port.old result port.new }

@@ -9,7 +9,7 @@ use Rattle.bh_canon.specs.declared.engine.CanonEnd.TheVariants as ends
 use Rattle.bh_canon.specs.Ends.{CanonRun, IsTold, IsComplete}
 use Rattle.bh_cmd.specs.declared.exits.Exit.TheVariants.{ReadFault, WriteFault, NoMemory}
 use Rattle.bh_cmd.specs.Exits.{exit_of, EndsSo}
-use Rattle.bh_cmd.specs.Runs.{CanonExit}
+use Rattle.bh_cmd.specs.Runs.{CanonExitFacts}
 
 ends_so : (end : CanonEnd) (P : CanonEnd → Type 0) → P end → EndsSo (exit_of end) P
 ends_so (ends.Done summary) P h = h
@@ -37,7 +37,7 @@ module _ {S : Type 0} {reads writes : S → Bool → Result ℕ Failed → List 
       → IsTold default_bounds left sent s end t → IsComplete default_bounds left read_faults write_faults s end t
       → (end ≡ ends.ReadFault → Rose (read_faults s) (read_faults t)) → (end ≡ ends.WriteFault → Rose (write_faults s) (write_faults t))
       → ((end ≡ ends.ReadFault → ⊥) → read_faults t ≡ read_faults s) → ((end ≡ ends.WriteFault → ⊥) → write_faults t ≡ write_faults s)
-      → CanonExit reads writes left sent read_faults write_faults s (exit_of end) t
+      → CanonExitFacts reads writes left sent read_faults write_faults s (exit_of end) t
   ended end chain told complete rf wf qr qw = record {
     chain = ends_so end (λ x. CanonRun default_bounds reads writes s x t) chain;
     told = ends_so end (λ x. IsTold default_bounds left sent s x t) told;
@@ -58,7 +58,7 @@ always (Some input) h = h input
 
 -- no engine was made, and the port wasn't asked
 module _ {S : Type 0} {reads writes : S → Bool → Result ℕ Failed → List ℕ → S → Type 0} {left sent : S → Option (List ℕ)} {read_faults write_faults : S → ℕ} {s : S} where
-  pub not_made : CanonExit reads writes left sent read_faults write_faults s NoMemory s
+  pub not_made : CanonExitFacts reads writes left sent read_faults write_faults s NoMemory s
   not_made = record {
     chain = record { taken = []; sent = []; met = false; chain = none; few = inl (omega arith); outcome = refl };
     told = always (left s) (λ input. nothing (sent s));

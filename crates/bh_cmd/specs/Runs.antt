@@ -14,7 +14,7 @@ abbrev pub IsCommand : List (String Global) → Type 0
 IsCommand words = map string_bytes words ≡ codes "canon" ∷ []
 
 -- What a run of `canon` under the default limits did: by the bytes of the port's calls, by what the port tells, and by its counts of faults.
-pub record CanonExit {S : Type 0} (reads writes : S → Bool → Result ℕ Failed → List ℕ → S → Type 0) (left sent : S → Option (List ℕ)) (read_faults write_faults : S → ℕ)
+pub record CanonExitFacts {S : Type 0} (reads writes : S → Bool → Result ℕ Failed → List ℕ → S → Type 0) (left sent : S → Option (List ℕ)) (read_faults write_faults : S → ℕ)
     (s : S) (exit : Exit) (t : S) : Type 0 where
   pub chain : EndsSo exit (λ end. CanonRun default_bounds reads writes s end t)
   pub told : EndsSo exit (λ end. IsTold default_bounds left sent s end t)
