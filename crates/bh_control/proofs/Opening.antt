@@ -7,12 +7,12 @@ use Rattle.std.proofs.lemmas.List.{length-append, length-map, map-append, length
 use Rattle.std.proofs.lemmas.List.Elements.{All-head, All-tail, All-nil, All-cons, All-append, All-replicate}
 use Rattle.bh_spec.specs.Bounds.{Bounds}
 use Rattle.bh_spec.specs.Bytes.{is_letter, is_token, is_scheme, is_authority, is_path, lower}
-use Rattle.bh_spec.specs.Messages.{Control, IsControl, IsToken, IsScheme}
+use Rattle.bh_spec.specs.Messages.{Control, IsControl, IsToken, IsScheme, IsWeb, IsWebPath}
 use Rattle.bh_spec.specs.Texts.{Text}
 use Rattle.bh_spec.proofs.Prefixes.{lists_apart}
 use Rattle.bh_control.specs.declared.strings.Place.{Place}
 use Rattle.bh_control.specs.declared.strings.Place.TheVariants.{Method, Scheme, Authority, Path}
-use Rattle.bh_control.specs.Phases.{kept_byte, HasRest, Agrees, IsWeb, IsValidAt, Opens, IsLeast, IsTakenAt}
+use Rattle.bh_control.specs.Phases.{kept_byte, HasRest, Agrees, BeginsPath, IsValidAt, Opens, IsLeast, IsTakenAt}
 
 abbrev Are : (ℕ → Bool) → List ℕ → Type 0
 Are f xs = All (λ byte. IsTrue (f byte)) xs
@@ -78,7 +78,7 @@ taken_if Scheme d kept left byte h o = (
 taken_if Authority d kept left byte h o = behind_front is_authority kept byte o.more o.valid
 taken_if Path d kept left byte h o = (behind_front is_path kept byte o.more o.valid.each, first)
   where
-    first : kept ≡ [] → IsWeb d.scheme → (byte ≡ 47) ⊎ ((d.method ≡ codes "OPTIONS") × (byte ≡ 42) × (left ≡ 0))
+    first : BeginsPath d kept left byte
     first e w =
         let alone : (kept ++ byte ∷ []) ++ o.more ≡ byte ∷ o.more = ap (λ (x : List ℕ). (x ++ byte ∷ []) ++ o.more) e in
         elim (o.valid.web w) [
@@ -101,11 +101,8 @@ first_letter (k ∷ kept) old rest byte is f =
     let same : k ≡ f.0 = cc in
     (k, (kept ++ byte ∷ []) ++ rest, refl, ap is_letter same ∙ f.3)
 
-abbrev Web : Control → List ℕ → Type 0
-Web d path = IsWeb d.scheme → ((rest : List ℕ) × (path ≡ 47 ∷ rest)) ⊎ ((d.method ≡ codes "OPTIONS") × (path ≡ codes "*"))
-
-path_web : (d : Control) (kept old : List ℕ) (byte left : ℕ) → length old ≡ suc left → Web d (kept ++ old)
-    → (kept ≡ [] → IsWeb d.scheme → (byte ≡ 47) ⊎ ((d.method ≡ codes "OPTIONS") × (byte ≡ 42) × (left ≡ 0))) → Web d ((kept ++ byte ∷ []) ++ replicate left 47)
+path_web : (d : Control) (kept old : List ℕ) (byte left : ℕ) → length old ≡ suc left → IsWebPath d (kept ++ old)
+    → BeginsPath d kept left byte → IsWebPath d ((kept ++ byte ∷ []) ++ replicate left 47)
 path_web d [] old byte left long web first w =
     elim (first refl w) [
       | inl slash ↦ inl (replicate left 47, ap (λ (x : ℕ). x ∷ replicate left 47) slash)

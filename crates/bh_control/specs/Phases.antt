@@ -7,7 +7,7 @@ use Rattle.bh_spec.specs.declared.Width.{Width}
 use Rattle.bh_spec.specs.Integers.{vi, limit_of, Begins}
 use Rattle.bh_spec.specs.Bounds.{Bounds, IsWithin}
 use Rattle.bh_spec.specs.Bytes.{is_letter, is_token, is_scheme, is_authority, is_path, lower}
-use Rattle.bh_spec.specs.Messages.{Control, IsControl, IsToken, IsScheme}
+use Rattle.bh_spec.specs.Messages.{Control, IsControl, IsToken, IsScheme, IsWeb, IsWebPath}
 use Rattle.bh_spec.specs.Texts.{Text, mark}
 use Rattle.bh_varint.specs.Step.{IsUnfinished}
 use Rattle.bh_control.specs.declared.strings.Place.{Place}
@@ -140,13 +140,10 @@ Rest K r c t = RestAt K r.phase r c t
 
 -- ---- what was read keeps the rules
 
-abbrev pub IsWeb : List ℕ → Type 0
-IsWeb scheme = (scheme ≡ codes "http") ⊎ (scheme ≡ codes "https")
-
 -- a path of the web begins with a slash, or is the star of OPTIONS
 pub record IsPathOf (c : Control) (path : List ℕ) : Type 0 where
   pub each : All (λ byte. IsTrue (is_path byte)) path
-  pub web : IsWeb c.scheme → ((rest : List ℕ) × (path ≡ 47 ∷ rest)) ⊎ ((c.method ≡ codes "OPTIONS") × (path ≡ codes "*"))
+  pub web : IsWebPath c path
 
 abbrev pub AreAuthority : List ℕ → Type 0
 AreAuthority bytes = All (λ byte. IsTrue (is_authority byte)) bytes
@@ -193,13 +190,16 @@ IsLeast Scheme d least = least ≡ 1
 IsLeast Authority d least = least ≡ 0
 IsLeast Path d least = (IsWeb d.scheme × (least ≡ 1)) ⊎ ((IsWeb d.scheme → ⊥) × (least ≡ 0))
 
+-- a first byte of a path of the web is a slash, or the star of OPTIONS
+abbrev pub BeginsPath : Control → List ℕ → ℕ → ℕ → Type 0
+BeginsPath c kept left byte = kept ≡ [] → IsWeb c.scheme → (byte ≡ 47) ⊎ ((c.method ≡ codes "OPTIONS") × (byte ≡ 42) × (left ≡ 0))
+
 -- the string may go on with the byte, with so many bytes behind it
 abbrev pub IsTakenAt : Place → Control → List ℕ → ℕ → ℕ → Type 0
 IsTakenAt Method d kept left byte = IsTrue (is_token byte)
 IsTakenAt Scheme d kept left byte = IsTrue (is_scheme byte) × (kept ≡ [] → IsTrue (is_letter byte))
 IsTakenAt Authority d kept left byte = IsTrue (is_authority byte)
-IsTakenAt Path d kept left byte = IsTrue (is_path byte)
-    × (kept ≡ [] → IsWeb d.scheme → (byte ≡ 47) ⊎ ((d.method ≡ codes "OPTIONS") × (byte ≡ 42) × (left ≡ 0)))
+IsTakenAt Path d kept left byte = IsTrue (is_path byte) × BeginsPath d kept left byte
 
 pub record OpenLength (place : Place) (most : ℕ) (r : Read) : Type 0 where
   pub done : AreDone place r.control

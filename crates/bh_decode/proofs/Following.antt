@@ -1,5 +1,5 @@
 -- Something may follow whatever was read; and what is spelled within the limits is spelled without.
-use Rattle.std.proofs.Common.{◌≡◌, ◌<◌, ◌-◌, ◌⊎◌, ℕ, suc, List, [], ◌∷◌, ◌++◌, length, Option, Some, None, codes, IsTrue, refl, ap, arith, inl, inr}
+use Rattle.std.proofs.Common.{◌≡◌, ◌<◌, ◌-◌, ℕ, suc, List, [], ◌∷◌, ◌++◌, length, Option, Some, None, IsTrue, refl, ap, arith, inl, inr}
 use Rattle.std.proofs.lemmas.Bool.{cases_lt}
 use Rattle.std.proofs.lemmas.List.Elements.{All-nil, All-cons}
 use Rattle.bh_spec.specs.declared.Part.TheVariants as parts
@@ -7,7 +7,7 @@ use Rattle.bh_spec.specs.declared.Form.{Form}
 use Rattle.bh_spec.specs.declared.Kind.TheVariants.{Request, Response}
 use Rattle.bh_spec.specs.Bounds.{Bounds, IsWithin, no_bounds}
 use Rattle.bh_spec.specs.Bytes.{is_token, is_scheme}
-use Rattle.bh_spec.specs.Messages.{Field, Control, IsControl}
+use Rattle.bh_spec.specs.Messages.{Field, Control, IsControl, IsWebPath}
 use Rattle.bh_spec.specs.Texts.{Text}
 use Rattle.bh_control.specs.Control.{ControlOf}
 use Rattle.bh_control.specs.Statuses.{StatusOf}
@@ -58,8 +58,7 @@ least_is_valid = record {
   web = λ w. not_web w;
 }
   where
-    not_web : (least_control.scheme ≡ codes "http") ⊎ (least_control.scheme ≡ codes "https")
-        → ((rest : List ℕ) × (least_control.path ≡ 47 ∷ rest)) ⊎ ((least_control.method ≡ codes "OPTIONS") × (least_control.path ≡ codes "*"))
+    not_web : IsWebPath least_control least_control.path
     not_web (inl e) = absurd (omega (arith, ap length e))
     not_web (inr e) = absurd (omega (arith, ap length e))
 

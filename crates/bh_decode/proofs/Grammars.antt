@@ -15,15 +15,14 @@ use Rattle.bh_spec.specs.Texts.{Text, mark, IsNumber, ◌then◌, AreEach}
 use Rattle.bh_spec.specs.Spelling.{IsInterimText, IsStartText, framing, Spells}
 use Rattle.bh_spec.proofs.Agreement.{agree_map}
 use Rattle.bh_spec.proofs.Numbers.{number_meets}
-use Rattle.bh_spec.proofs.Sections.{section_agrees}
-use Rattle.bh_spec.proofs.Whole.{framing_is, request_agrees, headers_named}
+use Rattle.bh_spec.proofs.Whole.{framing_is, request_agrees}
 use Rattle.bh_spec.proofs.Within.{no_lines, no_headers}
 use Rattle.bh_control.specs.Control.{ControlOf}
 use Rattle.bh_control.specs.Statuses.{StatusOf}
 use Rattle.bh_spec.specs.Viable.{IsMessageText}
 use Rattle.bh_decode.specs.Grammar.{IsRestText, IsAfterStart, IsResponseText, IsAfterFraming, IsFramed, status_left, AfterStatus}
 use Rattle.bh_decode.proofs.Contexts.{AreOnce, SomeThen}
-use Rattle.bh_model.specs.declared.field.Place.TheVariants.{Header, Trailer}
+use Rattle.bh_model.specs.declared.field.Place.TheVariants.{Header}
 use Rattle.bh_model.specs.declared.field.Place.{Place}
 use Rattle.bh_fields.specs.Sections.{SectionOf}
 use Rattle.bh_fields.proofs.Tracking.{sections_meet}

@@ -4,7 +4,7 @@ use Rattle.bh_spec.specs.declared.Form.{Form}
 use Rattle.bh_spec.specs.declared.Omitted.{Omitted}
 use Rattle.bh_spec.specs.Bounds.{Bounds, no_bounds}
 use Rattle.bh_spec.specs.Messages.{Field}
-use Rattle.bh_model.specs.declared.field.Place.TheVariants.{Header, Trailer}
+use Rattle.bh_model.specs.declared.field.Place.TheVariants.{Header}
 use Rattle.bh_fields.specs.Sections.{SectionOf}
 use Rattle.bh_spec.specs.Pieces.{SomeOf, IsText, Ends}
 use Rattle.bh_decode.specs.declared.stop.Stop.{Stop}
@@ -14,10 +14,8 @@ use Rattle.bh_decode.specs.Grammar.{IsRestText, IsAfterStart, RestOf, AfterOf}
 use Rattle.bh_decode.specs.Stops.{Stops, StopsThing, stop_behind, fault_behind, AtStop}
 use Rattle.bh_decode.proofs.Grammars.{section_once}
 use Rattle.bh_decode.proofs.Phases.{stops_then, behind_headers}
-use Rattle.bh_decode.proofs.Stopped.{Same, thing_same}
 use Rattle.bh_decode.proofs.Following.{sections_anyway, after_headers}
 use Rattle.bh_decode.proofs.Tails.{stops_there, both_texts}
-use Rattle.bh_model.specs.declared.field.Place.{Place}
 
 pub headers_stop : (L : Bounds) (form : Form) (bytes : List ℕ) (stop : Stop) → StopsThing (SomeOf (SectionOf L form Header)) (SomeOf (SectionOf no_bounds form Header)) bytes stop
     → Stops (IsAfterStart L form) (IsAfterStart no_bounds form) bytes stop

@@ -10,7 +10,7 @@ use Rattle.bh_spec.specs.Messages.{Message}
 use Rattle.bh_spec.specs.Texts.{Text}
 use Rattle.bh_spec.specs.Viable.{SpellsBytes, IsViable, NextPart, IsMessageText}
 use Rattle.bh_spec.specs.Answers.{refused, IsRefusedAt, IsAnswer}
-use Rattle.bh_spec.specs.Pieces.{IsText, CanBecome, IsNext, IsRefused, IsDead, IsLimit}
+use Rattle.bh_spec.specs.Pieces.{IsText, IsNext, IsRefused, IsDead, IsLimit}
 use Rattle.bh_spec.proofs.Pieces.{next_becomes}
 use Rattle.bh_decode.proofs.Contexts.{Context}
 

@@ -13,7 +13,7 @@ use Rattle.bh_spec.proofs.Sections.{number_nonempty}
 use Rattle.bh_spec.proofs.Marks.{bytes_of-append}
 use Rattle.bh_model.specs.declared.informational.Interim as held
 use Rattle.bh_model.specs.Values.{interim_of, IsEnded, AreEnded}
-use Rattle.bh_model.specs.declared.field.Place.TheVariants.{Header, Trailer}
+use Rattle.bh_model.specs.declared.field.Place.TheVariants.{Header}
 use Rattle.bh_fields.specs.Sections.{SectionOf}
 use Rattle.bh_spec.specs.Pieces.{SomeOf, IsText, Ends}
 use Rattle.bh_control.specs.Statuses.{StatusOf}
@@ -31,10 +31,9 @@ use Rattle.bh_spec.proofs.Within.{zero_within}
 use Rattle.bh_decode.proofs.Grammars.{section_once, status_once, one_more, one_before}
 use Rattle.bh_decode.proofs.Heads.{}
 use Rattle.bh_decode.proofs.Phases.{IsInterimRest, behind_final, behind_interim_status, behind_interim, stops_then}
-use Rattle.bh_decode.proofs.Stopped.{Same, stops_same, thing_same}
+use Rattle.bh_decode.proofs.Stopped.{Same, stops_same}
 use Rattle.bh_decode.proofs.Following.{sections_anyway, status_anyway, after_status, after_interim, one_left}
 use Rattle.bh_decode.proofs.Tails.{stops_there}
-use Rattle.bh_model.specs.declared.field.Place.{Place}
 
 response_same : (L : Bounds) (form : Form) (k : ℕ) → IsWithin L.interims k → Same (SomeThen (StatusOf (status_left L.interims k)) (AfterStatus L form k)) (IsResponseText L form k)
 response_same L form k within = record { on = one_before L form k within; back = one_more L form k }

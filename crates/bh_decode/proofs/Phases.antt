@@ -16,8 +16,7 @@ use Rattle.bh_spec.specs.Viable.{IsMessageText}
 use Rattle.bh_decode.specs.Grammar.{IsRestText, IsAfterStart, IsResponseText, IsAfterFraming, IsFramed, status_left, AfterStatus}
 use Rattle.bh_decode.proofs.Contexts.{Context, context_on, context_behind, context_same, AreOnce, SomeThen, Follows, next_then, dead_then, limit_then, unfinished_then}
 use Rattle.bh_decode.proofs.Grammars.{message_framed, framed_message, framed_once, control_once, section_once, status_once, one_more, one_before}
-use Rattle.bh_model.specs.declared.field.Place.TheVariants.{Header, Trailer}
-use Rattle.bh_model.specs.declared.field.Place.{Place}
+use Rattle.bh_model.specs.declared.field.Place.TheVariants.{Header}
 use Rattle.bh_fields.specs.Sections.{SectionOf}
 
 -- ---- behind what was read

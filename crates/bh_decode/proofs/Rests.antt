@@ -11,14 +11,12 @@ use Rattle.bh_spec.specs.Bounds.{Bounds}
 use Rattle.bh_spec.specs.Messages.{Field, IsRegularField}
 use Rattle.bh_spec.specs.Texts.{Text, mark}
 use Rattle.bh_spec.specs.Tails.{IsBody, IsTail}
-use Rattle.bh_spec.proofs.Sections.{section_agrees, body_agrees}
-use Rattle.bh_spec.proofs.Whole.{trailers_named}
+use Rattle.bh_spec.proofs.Sections.{body_agrees}
 use Rattle.bh_spec.specs.Pieces.{IsText}
 use Rattle.bh_decode.specs.Grammar.{IsRestText, IsPaddingText, IsEndText, IsAfterContent, BodyOf}
 use Rattle.bh_decode.proofs.Contexts.{Context, context_on, context_behind, context_same, context_or_nothing, OrNothing, AreOnce, SomeThen}
 use Rattle.bh_decode.proofs.Grammars.{some_headers, section_once}
-use Rattle.bh_model.specs.declared.field.Place.TheVariants.{Header, Trailer}
-use Rattle.bh_model.specs.declared.field.Place.{Place}
+use Rattle.bh_model.specs.declared.field.Place.TheVariants.{Trailer}
 use Rattle.bh_fields.specs.Sections.{SectionOf}
 
 -- content, and what stands behind it

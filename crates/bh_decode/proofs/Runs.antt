@@ -1,5 +1,5 @@
 -- A length and so many bytes of content.
-use Rattle.std.proofs.Common.{◌≡◌, ◌<◌, ◌≤◌, ◌+◌, ◌-◌, ℕ, suc, List, [], ◌++◌, length, take, drop, replicate, All, refl, sym, ap, subst, ◌∙◌, arith}
+use Rattle.std.proofs.Common.{◌≡◌, ◌<◌, ◌≤◌, ◌+◌, ◌-◌, ℕ, suc, List, [], ◌++◌, length, take, drop, replicate, refl, sym, ap, subst, ◌∙◌, arith}
 use Rattle.std.proofs.lemmas.List.{length-append, length-take, length-map, length-replicate}
 use Rattle.std.proofs.lemmas.List.Elements.{All-replicate, All-append, All-take}
 use Rattle.bh_spec.specs.Bytes.{AreBytes}

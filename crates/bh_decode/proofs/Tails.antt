@@ -11,7 +11,7 @@ use Rattle.bh_spec.specs.Messages.{Field, IsRegularField}
 use Rattle.bh_spec.specs.Texts.{Text, IsRun, ◌then◌}
 use Rattle.bh_spec.proofs.Sections.{body_nonempty}
 use Rattle.bh_spec.proofs.Marks.{bytes_of-append}
-use Rattle.bh_model.specs.declared.field.Place.TheVariants.{Trailer, Header}
+use Rattle.bh_model.specs.declared.field.Place.TheVariants.{Trailer}
 use Rattle.bh_fields.specs.Sections.{SectionOf}
 use Rattle.bh_spec.specs.Pieces.{SomeOf, IsText, Ends}
 use Rattle.bh_decode.specs.declared.stop.Stop.{Stop}
@@ -23,10 +23,9 @@ use Rattle.bh_decode.specs.Stops.{Stops, StopsThing, stop_behind, fault_behind, 
 use Rattle.bh_decode.proofs.Contexts.{Context, context_on}
 use Rattle.bh_decode.proofs.Fronts.{length_front}
 use Rattle.bh_decode.proofs.Phases.{stops_then}
-use Rattle.bh_decode.proofs.Stopped.{Same, thing_same, stops_behind}
+use Rattle.bh_decode.proofs.Stopped.{stops_behind}
 use Rattle.bh_decode.proofs.Rests.{IsBodyRest, body_once, rest_here, behind_body, behind_content, behind_trailers}
 use Rattle.bh_decode.proofs.Following.{sections_anyway, after_body, after_trailers}
-use Rattle.bh_model.specs.declared.field.Place.{Place}
 use Rattle.bh_decode.proofs.Grammars.{section_once}
 
 -- ---- a stop behind what was read

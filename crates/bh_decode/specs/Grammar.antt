@@ -12,7 +12,7 @@ use Rattle.bh_spec.specs.Messages.{Field, Control, Interim, Message, AreHeaders,
 use Rattle.bh_spec.specs.Texts.{Text, IsNumber, IsRun, ◌then◌, AreEach, IsString}
 use Rattle.bh_spec.specs.Sections.{IsSection}
 use Rattle.bh_spec.specs.Tails.{IsBody, IsTail}
-use Rattle.bh_spec.specs.Spelling.{IsInterimText, IsStartText, framing, Spells}
+use Rattle.bh_spec.specs.Spelling.{IsInterimText, IsStartText, framing}
 use Rattle.bh_model.specs.declared.field.Place.TheVariants.{Header, Trailer}
 use Rattle.bh_fields.specs.Sections.{SectionOf}
 use Rattle.bh_control.specs.Control.{ControlOf}

@@ -8,9 +8,6 @@ use crate::stop::Stop;
 use bh_model::Part;
 use bh_varint::{Allowed, Partial, Span, Step};
 
-/// The greatest integer, 2^62 - 1 (RFC 9000, section 16).
-pub const GREATEST: u64 = (1 << 62) - 1;
-
 /// A number that was read, and how many bytes it has.
 #[derive(Clone, Copy, Debug)]
 pub struct Number {

@@ -23,7 +23,7 @@ use Rattle.bh_fields.specs.Sets.{values_set}
 use Rattle.bh_fields.specs.Rests.{Spot, further, with_line, NumberThen, AreGood, LinesLeft, ValueLeft, ValueBody, NameLeft, NameBody}
 use Rattle.bh_fields.specs.Tracks.{Tracked}
 use Rattle.bh_fields.specs.Names.{MayBePseudo, NameTakes, flag_behind, ValueTakes, IsValueByte}
-use Rattle.bh_fields.specs.Points.{Point, spot_of, part_of, IsSized, NextState, NamedState, making_of, NameState, InValue, Moves, Goes, Outcome}
+use Rattle.bh_fields.specs.Points.{Point, spot_of, part_of, IsSized, NextState, NamedState, making_of, NameState, InValue, Moves, Goes, IsStep}
 use Rattle.bh_fields.proofs.Tracking.{tracked_step, tracked_same, tracked_dead}
 use Rattle.bh_fields.proofs.Strings.{line_of, name_whole, flag_on, name_good, flag_good, name_takes, value_takes, value_good, value_whole}
 use Rattle.bh_fields.proofs.Lines.{name_forth, name_back, name_to_value, value_to_name, value_forth, value_back, value_to_lines, lines_to_value}
@@ -163,15 +163,15 @@ name_tracked p m byte z h =
 -- the bytes of a name that goes on
 name_more : (p : Point) (m byte : ℕ) (flag : Bool) (fields : FieldsView) (kept : List ℕ) (capacity : ℕ) → byte < 256 → IsSized p → (h : NameState p (suc m)) → 0 < m
     → NameTakes p.flag h.name (suc m) byte → flag ≡ flag_behind p.flag h.name byte → IsNamedOn byte p.fields fields → kept ≡ p.kept ++ byte ∷ [] → capacity ≡ p.capacity
-    → Outcome judged.More p byte (phases.Name m) (named_point flag fields kept capacity p)
+    → IsStep judged.More p byte (phases.Name m) (named_point flag fields kept capacity p)
 name_more p m byte flag fields kept capacity small z h some takes ef s ek ec =
-    subst (λ (x : Bool). Outcome judged.More p byte (phases.Name m) (named_point x fields kept capacity p)) (sym ef)
-    (subst (λ (k : List ℕ). Outcome judged.More p byte (phases.Name m) (named_point (flag_behind p.flag h.name byte) fields k capacity p)) (sym ek) there)
+    subst (λ (x : Bool). IsStep judged.More p byte (phases.Name m) (named_point x fields kept capacity p)) (sym ef)
+    (subst (λ (k : List ℕ). IsStep judged.More p byte (phases.Name m) (named_point (flag_behind p.flag h.name byte) fields k capacity p)) (sym ek) there)
   where
     more : List ℕ
     more = h.name ++ to_ascii_lowercase byte ∷ []
 
-    there : Outcome judged.More p byte (phases.Name m) (named_point (flag_behind p.flag h.name byte) fields (p.kept ++ byte ∷ []) capacity p)
+    there : IsStep judged.More p byte (phases.Name m) (named_point (flag_behind p.flag h.name byte) fields (p.kept ++ byte ∷ []) capacity p)
     there =
         let f = flag_behind p.flag h.name byte in
         let q = named_point f p.fields (p.kept ++ byte ∷ []) capacity p in (
@@ -208,12 +208,12 @@ name_more p m byte flag fields kept capacity small z h some takes ef s ek ec =
 -- the last byte of a name
 name_last : (p : Point) (byte : ℕ) (flag : Bool) (fields : FieldsView) (kept : List ℕ) (capacity : ℕ) → byte < 256 → IsSized p → (h : NameState p 1)
     → NameTakes p.flag h.name 1 byte → flag ≡ flag_behind p.flag h.name byte → IsNamedOn byte p.fields fields → kept ≡ p.kept ++ byte ∷ [] → capacity ≡ p.capacity
-    → Outcome judged.More p byte phases.ValueLength (named_point flag fields kept capacity p)
+    → IsStep judged.More p byte phases.ValueLength (named_point flag fields kept capacity p)
 name_last p byte flag fields kept capacity small z h takes ef s ek ec =
-    subst (λ (x : Bool). Outcome judged.More p byte phases.ValueLength (named_point x fields kept capacity p)) (sym ef)
-    (subst (λ (k : List ℕ). Outcome judged.More p byte phases.ValueLength (named_point (flag_behind p.flag h.name byte) fields k capacity p)) (sym ek) there)
+    subst (λ (x : Bool). IsStep judged.More p byte phases.ValueLength (named_point x fields kept capacity p)) (sym ef)
+    (subst (λ (k : List ℕ). IsStep judged.More p byte phases.ValueLength (named_point (flag_behind p.flag h.name byte) fields k capacity p)) (sym ek) there)
   where
-    there : Outcome judged.More p byte phases.ValueLength (named_point (flag_behind p.flag h.name byte) fields (p.kept ++ byte ∷ []) capacity p)
+    there : IsStep judged.More p byte phases.ValueLength (named_point (flag_behind p.flag h.name byte) fields (p.kept ++ byte ∷ []) capacity p)
     there =
         let f = flag_behind p.flag h.name byte in
         let name = h.name ++ to_ascii_lowercase byte ∷ [] in
@@ -254,7 +254,7 @@ name_last p byte flag fields kept capacity small z h takes ef s ek ec =
 
 -- a byte that no name has next
 pub name_dead : (p : Point) (missing byte : ℕ) (phase : Phase) → byte < 256 → IsSized p → (h : NameState p missing) → (NameTakes p.flag h.name missing byte → ⊥)
-    → Outcome judged.Dead p byte phase p
+    → IsStep judged.Dead p byte phase p
 name_dead p missing byte phase small z h none = (z, (stops p.limits, stops no_bounds), record { limits = refl; form = refl; place = refl }, refl)
   where
     first_is : (tail : List ℕ) (m : ℕ) (fs : List Field) (t behind : Text) → length tail ≡ missing → (parts.Name, byte) ∷ t ≡ mark parts.Name tail ++ behind
@@ -346,7 +346,7 @@ value_taken p value m byte fields kept capacity z h takes s ek =
 
 -- a byte that no value has next
 pub value_dead : (p : Point) (value : List ℕ) (missing byte : ℕ) (phase : Phase) → IsSized p → InValue p value missing → 0 < missing → (ValueTakes value missing byte → ⊥)
-    → Outcome judged.Dead p byte phase p
+    → IsStep judged.Dead p byte phase p
 value_dead p value missing byte phase z h some none = (z, (stops p.limits, stops no_bounds), record { limits = refl; form = refl; place = refl }, refl)
   where
     first_is : (tail : List ℕ) (t behind : Text) → length tail ≡ missing → (parts.Value, byte) ∷ t ≡ mark parts.Value tail ++ behind → IsValue (value ++ tail) → ⊥
@@ -415,15 +415,15 @@ line_ended p value fields z h s = (
 
 pub name_step : (p : Point) (missing byte : ℕ) (flag : Bool) (fields : FieldsView) (kept : List ℕ) (capacity : ℕ) → byte < 256 → IsSized p → (h : NameState p missing) → 1 < missing
     → NameTakes p.flag h.name missing byte → flag ≡ flag_behind p.flag h.name byte → IsNamedOn byte p.fields fields → kept ≡ p.kept ++ byte ∷ [] → capacity ≡ p.capacity
-    → Outcome judged.More p byte (phases.Name (missing - 1)) (named_point flag fields kept capacity p)
+    → IsStep judged.More p byte (phases.Name (missing - 1)) (named_point flag fields kept capacity p)
 name_step p zero byte flag fields kept capacity small z h some takes ef s ek ec = absurd (omega arith)
 name_step p (suc m) byte flag fields kept capacity small z h some takes ef s ek ec =
-    subst (λ (x : ℕ). Outcome judged.More p byte (phases.Name x) (named_point flag fields kept capacity p)) (let e : m ≡ suc m - 1 = omega arith in e)
+    subst (λ (x : ℕ). IsStep judged.More p byte (phases.Name x) (named_point flag fields kept capacity p)) (let e : m ≡ suc m - 1 = omega arith in e)
     (name_more p m byte flag fields kept capacity small z h (omega arith) takes ef s ek ec)
 
 pub name_end : (p : Point) (missing byte : ℕ) (flag : Bool) (fields : FieldsView) (kept : List ℕ) (capacity : ℕ) → byte < 256 → IsSized p → (h : NameState p missing) → missing ≤ 1
     → NameTakes p.flag h.name missing byte → flag ≡ flag_behind p.flag h.name byte → IsNamedOn byte p.fields fields → kept ≡ p.kept ++ byte ∷ [] → capacity ≡ p.capacity
-    → Outcome judged.More p byte phases.ValueLength (named_point flag fields kept capacity p)
+    → IsStep judged.More p byte phases.ValueLength (named_point flag fields kept capacity p)
 name_end p zero byte flag fields kept capacity small z h one takes ef s ek ec = absurd (omega (arith, h.some))
 name_end p (suc zero) byte flag fields kept capacity small z h one takes ef s ek ec = name_last p byte flag fields kept capacity small z h takes ef s ek ec
 name_end p (suc (suc m)) byte flag fields kept capacity small z h one takes ef s ek ec = absurd (omega arith)

@@ -8,7 +8,7 @@ use Rattle.bh_fields.specs.declared.walk.Phase.{Phase}
 use Rattle.bh_fields.specs.declared.walk.Judged.{Judged}
 use Rattle.bh_fields.specs.declared.walk.Judged.TheVariants as judged
 use Rattle.bh_fields.specs.Sets.{names_set, values_set}
-use Rattle.bh_fields.specs.Points.{Point, part_of, most_of, IsSized, LineState, NameAt, ValueLengthState, IsSame, Moves, Outcome}
+use Rattle.bh_fields.specs.Points.{Point, part_of, most_of, IsSized, LineState, NameAt, ValueLengthState, IsSame, Moves, IsStep}
 use Rattle.bh_fields.proofs.Numbers.{begun_7}
 
 -- ---- a point with other numbers, lines and bytes
@@ -113,7 +113,7 @@ pub value_length_fits : (p : Point) → IsSized p → ValueLengthState p → len
 value_length_fits p z h = omega (arith, z.capacity, h.long, h.valued.room, begun_7 (values_set p.form (part_of p.limits) (Some (p.total - p.used))) p.number h.unfinished h.live)
 
 -- a move behind a byte that was taken
-pub moved : (judged : Judged) (p q : Point) (byte : ℕ) (phase : Phase) (r : Point) → IsSame p q → q.kept ≡ p.kept ++ byte ∷ [] → Moves judged q phase r → Outcome judged p byte phase r
+pub moved : (judged : Judged) (p q : Point) (byte : ℕ) (phase : Phase) (r : Point) → IsSame p q → q.kept ≡ p.kept ++ byte ∷ [] → Moves judged q phase r → IsStep judged p byte phase r
 moved judged.More p q byte phase r s e m = (m.0, m.1, record { limits = m.2.limits ∙ s.limits; form = m.2.form ∙ s.form; place = m.2.place ∙ s.place }, m.3 ∙ e)
 moved judged.Whole p q byte phase r s e m = (m.0, m.1, record { limits = m.2.limits ∙ s.limits; form = m.2.form ∙ s.form; place = m.2.place ∙ s.place }, m.3 ∙ e)
 moved judged.Limit p q byte phase r s e m = absurd m

@@ -19,7 +19,7 @@ use Rattle.bh_fields.specs.Sets.{lines_set, names_set, values_set, free_room}
 use Rattle.bh_spec.specs.Pieces.{IsText}
 use Rattle.bh_fields.specs.Sections.{SectionOf}
 use Rattle.bh_fields.specs.Rests.{NumberThen, CanEnd, HasMore, LinesLeft, NameBody}
-use Rattle.bh_fields.specs.Points.{Point, spot_of, part_of, most_of, IsSized, IsBounded, LengthState, NextState, LineState, NamedState, ValueLengthState, InValue, IsFull, Moves, Goes, Outcome}
+use Rattle.bh_fields.specs.Points.{Point, spot_of, part_of, most_of, IsSized, IsBounded, LengthState, NextState, LineState, NamedState, ValueLengthState, InValue, IsFull, Moves, Goes, IsStep}
 use Rattle.bh_spec.proofs.Widths.{count_1}
 use Rattle.bh_fields.proofs.Numbers.{begun_7}
 use Rattle.bh_fields.proofs.Tracking.{tracked_same, tracked_whole}
@@ -33,9 +33,9 @@ use Rattle.bh_fields.proofs.Changes.{with_number, of_total, of_used, sized_numbe
 
 pub length_more : (p : Point) (byte : ℕ) (number kept : List ℕ) (capacity : ℕ) → IsSized p → LengthState p → GoesOn (lines_set (most_of p.limits)) (p.number ++ byte ∷ [])
     → number ≡ p.number ++ byte ∷ [] → kept ≡ p.kept ++ byte ∷ [] → capacity ≡ p.capacity
-    → Outcome judged.More p byte phases.SectionLength (with_number number kept capacity p)
+    → IsStep judged.More p byte phases.SectionLength (with_number number kept capacity p)
 length_more p byte number kept capacity z h on en ek ec =
-    numbered (Outcome judged.More p byte phases.SectionLength) p number (p.number ++ byte ∷ []) kept (p.kept ++ byte ∷ []) capacity en ek (
+    numbered (IsStep judged.More p byte phases.SectionLength) p number (p.number ++ byte ∷ []) kept (p.kept ++ byte ∷ []) capacity en ek (
       sized_number (p.number ++ byte ∷ []) (p.kept ++ byte ∷ []) capacity p z ec,
       record {
         known = h.known;
@@ -93,11 +93,11 @@ length_whole p byte n w kept capacity z h whole ek =
 
 -- a number that is refused
 refused_limit : (p : Point) (byte : ℕ) (phase : Phase) (capacity : ℕ) → IsSized p → capacity ≡ p.capacity → (Goes p.limits p byte → ⊥) → Goes no_bounds p byte
-    → Outcome judged.Limit p byte phase (with_number [] p.kept capacity p)
+    → IsStep judged.Limit p byte phase (with_number [] p.kept capacity p)
 refused_limit p byte phase capacity z e a b = (sized_number [] p.kept capacity p z e, (a, b), record { limits = refl; form = refl; place = refl }, refl)
 
 refused_dead : (p : Point) (byte : ℕ) (phase : Phase) (capacity : ℕ) → IsSized p → capacity ≡ p.capacity → (Goes p.limits p byte → ⊥) → (Goes no_bounds p byte → ⊥)
-    → Outcome judged.Dead p byte phase (with_number [] p.kept capacity p)
+    → IsStep judged.Dead p byte phase (with_number [] p.kept capacity p)
 refused_dead p byte phase capacity z e a b = (sized_number [] p.kept capacity p z e, (a, b), record { limits = refl; form = refl; place = refl }, refl)
 
 length_stops : (p : Point) (byte : ℕ) → IsSized p → LengthState p → (SomeBegins (lines_set (most_of p.limits)) (p.number ++ byte ∷ []) → ⊥) → Goes p.limits p byte → ⊥
@@ -106,13 +106,13 @@ length_stops p byte z h dead =
     (length_only p.limits (spot_of p) (most_of p.limits) (most_to p z) h.known h.unused h.empty) dead
 
 pub length_limit : (p : Point) (byte : ℕ) (phase : Phase) → IsSized p → LengthState p → (SomeBegins (lines_set (most_of p.limits)) (p.number ++ byte ∷ []) → ⊥)
-    → SomeBegins (lines_set greatest) (p.number ++ byte ∷ []) → Outcome judged.Limit p byte phase (with_number [] p.kept p.capacity p)
+    → SomeBegins (lines_set greatest) (p.number ++ byte ∷ []) → IsStep judged.Limit p byte phase (with_number [] p.kept p.capacity p)
 length_limit p byte phase z h dead live =
     refused_limit p byte phase p.capacity z refl (length_stops p byte z h dead)
     (number_lives p.form p.place p.kept parts.SectionLength (LengthAt p) p.number byte h.tracked no_bounds (lines_set greatest) (lengths_free p h) live)
 
 pub length_dead : (p : Point) (byte : ℕ) (phase : Phase) → IsSized p → LengthState p → (SomeBegins (lines_set (most_of p.limits)) (p.number ++ byte ∷ []) → ⊥)
-    → (SomeBegins (lines_set greatest) (p.number ++ byte ∷ []) → ⊥) → Outcome judged.Dead p byte phase (with_number [] p.kept p.capacity p)
+    → (SomeBegins (lines_set greatest) (p.number ++ byte ∷ []) → ⊥) → IsStep judged.Dead p byte phase (with_number [] p.kept p.capacity p)
 length_dead p byte phase z h dead none =
     refused_dead p byte phase p.capacity z refl (length_stops p byte z h dead)
     (number_stops p.form p.place p.kept parts.SectionLength (LengthAt p) p.limits p.number byte h.tracked (length_next p z h) h.unfinished no_bounds (lines_set greatest)
@@ -177,9 +177,9 @@ length_is {set} {bytes} {n} {w} h = sym (ap length h.spelled) ∙ length-vi n w
 pub line_more : (p : Point) (byte : ℕ) (number kept : List ℕ) (capacity : ℕ) → IsSized p → LineState p
     → GoesOn (names_set p.form (part_of p.limits) (Some (p.total - p.used))) (p.number ++ byte ∷ [])
     → number ≡ p.number ++ byte ∷ [] → kept ≡ p.kept ++ byte ∷ [] → capacity ≡ p.capacity
-    → Outcome judged.More p byte phases.NameLength (with_number number kept capacity p)
+    → IsStep judged.More p byte phases.NameLength (with_number number kept capacity p)
 line_more p byte number kept capacity z h on en ek ec =
-    numbered (Outcome judged.More p byte phases.NameLength) p number (p.number ++ byte ∷ []) kept (p.kept ++ byte ∷ []) capacity en ek (
+    numbered (IsStep judged.More p byte phases.NameLength) p number (p.number ++ byte ∷ []) kept (p.kept ++ byte ∷ []) capacity en ek (
       sized_number (p.number ++ byte ∷ []) (p.kept ++ byte ∷ []) capacity p z ec,
       record {
         between = record {
@@ -233,7 +233,7 @@ line_stops p byte z h dead =
 pub line_limit : (p : Point) (byte : ℕ) (phase : Phase) → IsSized p → LineState p
     → (SomeBegins (names_set p.form (part_of p.limits) (Some (p.total - p.used))) (p.number ++ byte ∷ []) → ⊥)
     → SomeBegins (names_set p.form greatest (free_room p.form (p.total - p.used))) (p.number ++ byte ∷ [])
-    → Outcome judged.Limit p byte phase (with_number [] p.kept p.capacity p)
+    → IsStep judged.Limit p byte phase (with_number [] p.kept p.capacity p)
 line_limit p byte phase z h dead live =
     refused_limit p byte phase p.capacity z refl (line_stops p byte z h dead)
     (number_lives p.form p.place p.kept parts.NameLength (NamesAt p) p.number byte h.tracked no_bounds
@@ -242,7 +242,7 @@ line_limit p byte phase z h dead live =
 pub line_dead : (p : Point) (byte : ℕ) (phase : Phase) → IsSized p → LineState p
     → (SomeBegins (names_set p.form (part_of p.limits) (Some (p.total - p.used))) (p.number ++ byte ∷ []) → ⊥)
     → (SomeBegins (names_set p.form greatest (free_room p.form (p.total - p.used))) (p.number ++ byte ∷ []) → ⊥)
-    → Outcome judged.Dead p byte phase (with_number [] p.kept p.capacity p)
+    → IsStep judged.Dead p byte phase (with_number [] p.kept p.capacity p)
 line_dead p byte phase z h dead none =
     refused_dead p byte phase p.capacity z refl (line_stops p byte z h dead)
     (number_stops p.form p.place p.kept parts.NameLength (NamesAt p) p.limits p.number byte h.tracked (line_next p z h) h.unfinished no_bounds
@@ -282,9 +282,9 @@ named_whole p bytes z h = (z, (refl, record { idle = h.between.idle; whole = who
 pub value_length_more : (p : Point) (byte : ℕ) (number kept : List ℕ) (capacity : ℕ) → IsSized p → ValueLengthState p
     → GoesOn (values_set p.form (part_of p.limits) (Some (p.total - p.used))) (p.number ++ byte ∷ [])
     → number ≡ p.number ++ byte ∷ [] → kept ≡ p.kept ++ byte ∷ [] → capacity ≡ p.capacity
-    → Outcome judged.More p byte phases.ValueLength (with_number number kept capacity p)
+    → IsStep judged.More p byte phases.ValueLength (with_number number kept capacity p)
 value_length_more p byte number kept capacity z h on en ek ec =
-    numbered (Outcome judged.More p byte phases.ValueLength) p number (p.number ++ byte ∷ []) kept (p.kept ++ byte ∷ []) capacity en ek (
+    numbered (IsStep judged.More p byte phases.ValueLength) p number (p.number ++ byte ∷ []) kept (p.kept ++ byte ∷ []) capacity en ek (
       sized_number (p.number ++ byte ∷ []) (p.kept ++ byte ∷ []) capacity p z ec,
       record {
         name = h.name;
@@ -319,7 +319,7 @@ value_length_stops p byte z h dead =
 pub value_length_limit : (p : Point) (byte : ℕ) (phase : Phase) → IsSized p → ValueLengthState p
     → (SomeBegins (values_set p.form (part_of p.limits) (Some (p.total - p.used))) (p.number ++ byte ∷ []) → ⊥)
     → SomeBegins (values_set p.form greatest (free_room p.form (p.total - p.used))) (p.number ++ byte ∷ [])
-    → Outcome judged.Limit p byte phase (with_number [] p.kept p.capacity p)
+    → IsStep judged.Limit p byte phase (with_number [] p.kept p.capacity p)
 value_length_limit p byte phase z h dead live =
     refused_limit p byte phase p.capacity z refl (value_length_stops p byte z h dead)
     (number_lives p.form p.place p.kept parts.ValueLength (ValuesAt p h.name) p.number byte h.tracked no_bounds
@@ -328,7 +328,7 @@ value_length_limit p byte phase z h dead live =
 pub value_length_dead : (p : Point) (byte : ℕ) (phase : Phase) → IsSized p → ValueLengthState p
     → (SomeBegins (values_set p.form (part_of p.limits) (Some (p.total - p.used))) (p.number ++ byte ∷ []) → ⊥)
     → (SomeBegins (values_set p.form greatest (free_room p.form (p.total - p.used))) (p.number ++ byte ∷ []) → ⊥)
-    → Outcome judged.Dead p byte phase (with_number [] p.kept p.capacity p)
+    → IsStep judged.Dead p byte phase (with_number [] p.kept p.capacity p)
 value_length_dead p byte phase z h dead none =
     refused_dead p byte phase p.capacity z refl (value_length_stops p byte z h dead)
     (number_stops p.form p.place p.kept parts.ValueLength (ValuesAt p h.name) p.limits p.number byte h.tracked (value_length_next p z h) h.unfinished no_bounds

@@ -239,8 +239,8 @@ abbrev pub Goes : Bounds → Point → ℕ → Type 0
 Goes L p byte = CanBecome (IsSectionText L p.form p.place) (p.kept ++ byte ∷ [])
 
 -- what a byte makes of it
-abbrev pub Outcome : Judged → Point → ℕ → Phase → Point → Type 0
-Outcome judged.More p byte phase q = IsSized q × ReadingAt phase q × IsSame p q × (q.kept ≡ p.kept ++ byte ∷ [])
-Outcome judged.Whole p byte phase q = IsSized q × ((phase ≡ phases.Whole) × WholeState q) × IsSame p q × (q.kept ≡ p.kept ++ byte ∷ [])
-Outcome judged.Limit p byte phase q = IsSized q × ((Goes p.limits p byte → ⊥) × Goes no_bounds p byte) × IsSame p q × (q.kept ≡ p.kept)
-Outcome judged.Dead p byte phase q = IsSized q × ((Goes p.limits p byte → ⊥) × (Goes no_bounds p byte → ⊥)) × IsSame p q × (q.kept ≡ p.kept)
+abbrev pub IsStep : Judged → Point → ℕ → Phase → Point → Type 0
+IsStep judged.More p byte phase q = IsSized q × ReadingAt phase q × IsSame p q × (q.kept ≡ p.kept ++ byte ∷ [])
+IsStep judged.Whole p byte phase q = IsSized q × ((phase ≡ phases.Whole) × WholeState q) × IsSame p q × (q.kept ≡ p.kept ++ byte ∷ [])
+IsStep judged.Limit p byte phase q = IsSized q × ((Goes p.limits p byte → ⊥) × Goes no_bounds p byte) × IsSame p q × (q.kept ≡ p.kept)
+IsStep judged.Dead p byte phase q = IsSized q × ((Goes p.limits p byte → ⊥) × (Goes no_bounds p byte → ⊥)) × IsSame p q × (q.kept ≡ p.kept)

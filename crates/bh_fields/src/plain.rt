@@ -2,8 +2,7 @@
 //! and 32 of a section.
 use crate::SectionStep;
 use bh_model::{Form, Part};
-
-const GREATEST: u64 = 0x3fff_ffff_ffff_ffff;
+use bh_varint::GREATEST;
 
 /// What stands where a number is expected.
 #[derive(Clone, Copy)]

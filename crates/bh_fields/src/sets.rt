@@ -7,9 +7,6 @@ ghost use Rattle.bh_fields.specs.Sets.{lines_set, names_set, values_set, Judges,
 use bh_spec::Form;
 use bh_varint::{Allowed, Partial, Rest, Span, Step, Width};
 
-/// The greatest number that an integer can hold (RFC 9000, section 16).
-pub const GREATEST: u64 = 0x3fff_ffff_ffff_ffff;
-
 /// How many bytes a width has.
 pub fn bytes_in(width: Width) -> u64
     ensures { result ≡ byte_count width }

@@ -5,11 +5,12 @@ ghost use Rattle.bh_spec.specs.Bytes.{lower};
 ghost use Rattle.bh_model.specs.Rules.{IsControlName};
 ghost use Rattle.bh_fields.specs.Names.{NameTakes, IsValueByte, flag_behind};
 ghost use Rattle.bh_fields.specs.Sets.{free_room};
-ghost use Rattle.bh_fields.specs.Points.{Point, point_of, IsSized, IsFull, LengthState, NextState, LineState, NamedState, NameState, ValueLengthState, InValue, ValueState, ReadingAt, Moves, Outcome};
+ghost use Rattle.bh_fields.specs.Points.{Point, point_of, IsSized, IsFull, LengthState, NextState, LineState, NamedState, NameState, ValueLengthState, InValue, ValueState, ReadingAt, Moves, IsStep};
 
-use crate::sets::{GREATEST, Read, bytes_in, judge, length_set, name_set, value_set};
+use crate::sets::{Read, bytes_in, judge, length_set, name_set, value_set};
 use crate::walk::{Judged, Phase, Walk};
 use bh_model::Form;
+use bh_varint::GREATEST;
 
 /// Whether the name is one of control data with the byte behind it, in any case of letters (RFC 9113, section 8.3). Each
 /// of the five ends by another letter.
@@ -84,7 +85,7 @@ impl Walk {
     pub fn step(&mut self, byte: u8) -> Judged
         requires sized { IsSized (point_of self.old) }
         requires reading { ReadingAt self.old.phase (point_of self.old) }
-        ensures { Outcome result (point_of self.old) byte self.new.phase (point_of self.new) }
+        ensures { IsStep result (point_of self.old) byte self.new.phase (point_of self.new) }
     {
         match self.phase {
             Phase::SectionLength => self.take_length(byte),
@@ -101,7 +102,7 @@ impl Walk {
         requires phase { self.old.phase ≡ Phase.SectionLength }
         requires sized { IsSized (point_of self.old) }
         requires state { LengthState (point_of self.old) }
-        ensures { Outcome result (point_of self.old) byte self.new.phase (point_of self.new) }
+        ensures { IsStep result (point_of self.old) byte self.new.phase (point_of self.new) }
     {
         let within = length_set(self.limits.section());
         let free = length_set(GREATEST);
@@ -125,7 +126,7 @@ impl Walk {
         requires phase { self.old.phase ≡ Phase.NameLength }
         requires sized { IsSized (point_of self.old) }
         requires state { LineState (point_of self.old) }
-        ensures { Outcome result (point_of self.old) byte self.new.phase (point_of self.new) }
+        ensures { IsStep result (point_of self.old) byte self.new.phase (point_of self.new) }
     {
         let room = self.total - self.used;
         let within = name_set(self.form, self.limits.part(), Some(room));
@@ -166,7 +167,7 @@ impl Walk {
     fn take_name(&mut self, byte: u8, missing: u64) -> Judged
         requires sized { IsSized (point_of self.old) }
         requires state { NameState (point_of self.old) missing }
-        ensures { Outcome result (point_of self.old) byte self.new.phase (point_of self.new) }
+        ensures { IsStep result (point_of self.old) byte self.new.phase (point_of self.new) }
     {
         let front = &self.kept[self.name_at..];
         if !is_name_byte(front, byte, missing, self.may_be_pseudo) {
@@ -190,7 +191,7 @@ impl Walk {
         requires phase { self.old.phase ≡ Phase.ValueLength }
         requires sized { IsSized (point_of self.old) }
         requires state { ValueLengthState (point_of self.old) }
-        ensures { Outcome result (point_of self.old) byte self.new.phase (point_of self.new) }
+        ensures { IsStep result (point_of self.old) byte self.new.phase (point_of self.new) }
     {
         let room = self.total - self.used;
         let within = value_set(self.form, self.limits.part(), Some(room));
@@ -230,7 +231,7 @@ impl Walk {
     fn take_value(&mut self, byte: u8, missing: u64, first: bool) -> Judged
         requires sized { IsSized (point_of self.old) }
         requires state { ValueState (point_of self.old) missing first }
-        ensures { Outcome result (point_of self.old) byte self.new.phase (point_of self.new) }
+        ensures { IsStep result (point_of self.old) byte self.new.phase (point_of self.new) }
     {
         if !is_value_byte(byte, missing, first) {
             return Judged::Dead;

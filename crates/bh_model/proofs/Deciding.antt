@@ -5,11 +5,11 @@ use Rattle.std.proofs.Math.Logic.{∥∥₁_elim}
 use Rattle.std.proofs.lemmas.Bool.{false≢true}
 use Rattle.std.proofs.lemmas.List.Elements.{All-nil, All-cons, All-head, All-tail}
 use Rattle.bh_spec.specs.Bytes.{AreBytes, is_letter, is_token, is_scheme, is_authority, is_path, is_value, is_blank, lower}
-use Rattle.bh_spec.specs.Messages.{Field, Control, IsToken, IsPseudo, IsValue, IsScheme, IsValid, Message}
+use Rattle.bh_spec.specs.Messages.{Field, Control, IsToken, IsPseudo, IsValue, IsScheme, IsValid, Message, IsWeb, IsWebPath}
 use Rattle.bh_model.specs.declared.field.Place.TheVariants.{Header, Trailer}
 use Rattle.bh_model.specs.declared.messages.Start as begun
 use Rattle.bh_model.specs.Lines.{FieldsView}
-use Rattle.bh_model.specs.Rules.{Rule, IsControlName, method_rule, scheme_rule, authority_rule, path_rule, status_rule, name_rule, value_rule, ended_rule, IsKept, AreKept, IsWebPath, IsPath}
+use Rattle.bh_model.specs.Rules.{Rule, IsControlName, method_rule, scheme_rule, authority_rule, path_rule, status_rule, name_rule, value_rule, ended_rule, IsKept, AreKept, IsPath}
 use Rattle.bh_model.specs.Held.{message_of, IsMessage}
 use Rattle.bh_model.proofs.MessageLemmas.{rules_of, message_from_kept, kept_from_message}
 
@@ -133,9 +133,9 @@ slash [] = inr (λ h. let e = h.1 in cc)
 slash (x ∷ rest) =
     by (x ≡ 47) ((behind : List ℕ) × (x ∷ rest ≡ 47 ∷ behind)) (λ e. (rest, ap (λ y. y ∷ rest) e)) (λ h. let e = h.1 in cc) (same x 47)
 
-web_path : (c : Control) → Decided (IsWebPath c)
+web_path : (c : Control) → Decided (IsWebPath c c.path)
 web_path c =
-    if_then ((c.scheme ≡ codes "http") ⊎ (c.scheme ≡ codes "https")) (((rest : List ℕ) × (c.path ≡ 47 ∷ rest)) ⊎ ((c.method ≡ codes "OPTIONS") × (c.path ≡ codes "*")))
+    if_then (IsWeb c.scheme) (((rest : List ℕ) × (c.path ≡ 47 ∷ rest)) ⊎ ((c.method ≡ codes "OPTIONS") × (c.path ≡ codes "*")))
     (either (c.scheme ≡ codes "http") (c.scheme ≡ codes "https") (same_bytes c.scheme (codes "http")) (same_bytes c.scheme (codes "https")))
     (either ((rest : List ℕ) × (c.path ≡ 47 ∷ rest)) ((c.method ≡ codes "OPTIONS") × (c.path ≡ codes "*")) (slash c.path)
     (both (c.method ≡ codes "OPTIONS") (c.path ≡ codes "*") (same_bytes c.method (codes "OPTIONS")) (same_bytes c.path (codes "*"))))
@@ -145,8 +145,8 @@ rule (method_rule bytes) = token bytes
 rule (scheme_rule bytes) = scheme bytes
 rule (authority_rule bytes) = classed is_authority bytes
 rule (path_rule c) =
-    by (All (λ byte. IsTrue (is_path byte)) c.path × IsWebPath c) (IsPath c) (λ h. record { each = h.0; web = h.1 }) (λ h. (h.each, h.web))
-    (both (All (λ byte. IsTrue (is_path byte)) c.path) (IsWebPath c) (classed is_path c.path) (web_path c))
+    by (All (λ byte. IsTrue (is_path byte)) c.path × IsWebPath c c.path) (IsPath c) (λ h. record { each = h.0; web = h.1 }) (λ h. (h.each, h.web))
+    (both (All (λ byte. IsTrue (is_path byte)) c.path) (IsWebPath c c.path) (classed is_path c.path) (web_path c))
 rule (status_rule low high status) = both (low ≤ status) (status ≤ high) (at_most low status) (at_most status high)
 rule (name_rule Header before name) =
     both (lower name ≡ name) _ (same_bytes (lower name) name)

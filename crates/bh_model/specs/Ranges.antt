@@ -22,7 +22,3 @@ pub record AreLimits (L : Bounds) : Type 0 where
   pub input : ℕ
   pub same : L ≡ bounds_of part section interims input
   pub range : AreInRange part section interims input
-
--- the limits of a reader that is told none
-abbrev pub default_bounds : Bounds
-default_bounds = bounds_of 8192 65536 16 16777216

@@ -3,7 +3,7 @@ use Rattle.std.specs.Prelude.{ℕ, ◌≡◌, ◌≤◌, ◌⊎◌, List, [], �
 use Rattle.bh_spec.specs.declared.Part.{Part}
 use Rattle.bh_spec.specs.declared.Part.TheVariants.{Method, Scheme, Authority, Path, Status, Name, Value}
 use Rattle.bh_spec.specs.Bytes.{is_authority, is_path, lower}
-use Rattle.bh_spec.specs.Messages.{Field, Control, IsToken, IsPseudo, IsValue, IsScheme, AreHeaders, AreTrailers}
+use Rattle.bh_spec.specs.Messages.{Field, Control, IsToken, IsPseudo, IsValue, IsScheme, AreHeaders, AreTrailers, IsWebPath}
 use Rattle.bh_model.specs.declared.field.Place.{Place}
 use Rattle.bh_model.specs.declared.field.Place.TheVariants.{Header, Trailer}
 use Rattle.bh_model.specs.declared.informational.Interim as declared
@@ -36,14 +36,9 @@ part_of (ended_rule making) = Name
 abbrev pub IsControlName : List ℕ → Type 0
 IsControlName name = (name ≡ codes ":method") ⊎ ((name ≡ codes ":scheme") ⊎ ((name ≡ codes ":authority") ⊎ ((name ≡ codes ":path") ⊎ (name ≡ codes ":status"))))
 
--- a path of http or https begins with a slash, or is the star of OPTIONS
-abbrev pub IsWebPath : Control → Type 0
-IsWebPath c = (c.scheme ≡ codes "http") ⊎ (c.scheme ≡ codes "https")
-    → ((rest : List ℕ) × (c.path ≡ 47 ∷ rest)) ⊎ ((c.method ≡ codes "OPTIONS") × (c.path ≡ codes "*"))
-
 pub record IsPath (c : Control) : Type 0 where
   pub each : All (λ byte. IsTrue (is_path byte)) c.path
-  pub web : IsWebPath c
+  pub web : IsWebPath c c.path
 
 -- a token, or in a header section a pseudo-field's name behind pseudo-fields alone; in lower case
 abbrev pub IsNameBehind : Place → List Field → List ℕ → Type 0

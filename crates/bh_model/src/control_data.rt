@@ -1,7 +1,7 @@
 //! The control data of a request.
 ghost use Rattle.std.specs.Prelude.{◌≡◌, ◌↔◌, IsTrue, IsNone, IfSome};
-ghost use Rattle.bh_spec.specs.Messages.{IsControl};
-ghost use Rattle.bh_model.specs.Rules.{IsPath, IsWebPath, IsFirstBroken, control_rules};
+ghost use Rattle.bh_spec.specs.Messages.{IsControl, IsWebPath};
+ghost use Rattle.bh_model.specs.Rules.{IsPath, IsFirstBroken, control_rules};
 ghost use Rattle.bh_model.specs.Values.{control_lent};
 
 use crate::byte_list::Bytes;
@@ -48,7 +48,7 @@ impl ControlView<'_> {
 
     /// Whether the path is one of the web, where the scheme is.
     fn has_web_path(&self) -> bool
-        ensures { IsTrue result ↔ IsWebPath (control_lent self.now) }
+        ensures { IsTrue result ↔ IsWebPath (control_lent self.now) (control_lent self.now).path }
     {
         let web = self.scheme == b"http".as_slice() || self.scheme == b"https".as_slice();
         let all = self.method == b"OPTIONS".as_slice() && self.path == b"*".as_slice();

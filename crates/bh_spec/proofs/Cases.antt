@@ -7,14 +7,14 @@ use Rattle.bh_spec.specs.declared.Form.TheVariants.{Known, Indeterminate}
 use Rattle.bh_spec.specs.declared.Omitted.TheVariants.{Both}
 use Rattle.bh_spec.specs.declared.Width.TheVariants.{One, Two, Four}
 use Rattle.bh_spec.specs.Integers.{vi}
-use Rattle.bh_spec.specs.Bounds.{Bounds}
+use Rattle.bh_spec.specs.Bounds.{Bounds, default_bounds}
 use Rattle.bh_spec.specs.Bytes.{is_token, is_scheme, is_authority, is_path}
 use Rattle.bh_spec.specs.Messages.{Field, IsToken, IsScheme, IsControl, IsRegularField, IsPseudoField, AreHeaders, IsInterim, IsValid}
 use Rattle.bh_spec.specs.Texts.{Text, mark, IsNumber, IsString}
 use Rattle.bh_spec.specs.Sections.{IsLinesWithin, IsSection}
 use Rattle.bh_spec.specs.Tails.{IsBody}
 use Rattle.bh_spec.specs.Spelling.{IsRequest, Spells}
-use Rattle.bh_spec.specs.Cases.{defaults, get, field_a, field_b, TailLeftOut, PaddingCounted, UpperCaseName, FramingInFourBytes, TrailersLeftOut, InterimResponse, PseudoField, InputTooLong, IntegerVectors, IntegerBoundaries}
+use Rattle.bh_spec.specs.Cases.{get, field_a, field_b, TailLeftOut, PaddingCounted, UpperCaseName, FramingInFourBytes, TrailersLeftOut, InterimResponse, PseudoField, InputTooLong, IntegerVectors, IntegerBoundaries}
 use Rattle.bh_spec.proofs.Within.{no_lines, no_headers}
 
 -- ---- a message is valid
@@ -91,19 +91,19 @@ request_under limit = record {
   path_within = omega arith;
 }
 
-pub request_spelled : IsRequest defaults (record { method = codes "GET"; scheme = codes "https"; authority = []; path = codes "/" }) request_text
+pub request_spelled : IsRequest default_bounds (record { method = codes "GET"; scheme = codes "https"; authority = []; path = codes "/" }) request_text
 request_spelled = request_under (Some (2 ^ 24))
 
 empty_under : (limit : Option ℕ) → IsSection (with_input limit) Known [] (mark parts.SectionLength (0 ∷ []))
 empty_under limit = ([], no_lines (with_input limit), (_, [], one parts.SectionLength 0 (omega arith), refl, refl))
 
-empty_section : IsSection defaults Known [] (mark parts.SectionLength (0 ∷ []))
+empty_section : IsSection default_bounds Known [] (mark parts.SectionLength (0 ∷ []))
 empty_section = empty_under (Some (2 ^ 24))
 
 abbrev a_text : Text
 a_text = (mark parts.NameLength (1 ∷ []) ++ mark parts.Name (0x41 ∷ [])) ++ (mark parts.ValueLength (0 ∷ []) ++ [])
 
-a_lines : IsLinesWithin defaults (field_a ∷ []) (a_text ++ [])
+a_lines : IsLinesWithin default_bounds (field_a ∷ []) (a_text ++ [])
 a_lines = record {
   lines = (a_text, [], (0x41 ∷ [], refl, (_, _, a_string parts.NameLength parts.Name (0x41 ∷ []) (omega arith), a_string parts.ValueLength parts.Value [] (omega arith), refl)), refl, refl);
   total = omega arith;
@@ -111,7 +111,7 @@ a_lines = record {
   values = All-from_recursion (λ (f : Field). length f.value ≤ 8192) (field_a ∷ []) (omega arith, tt);
 }
 
-a_section : IsSection defaults Known (field_a ∷ []) (mark parts.SectionLength (3 ∷ []) ++ a_text)
+a_section : IsSection default_bounds Known (field_a ∷ []) (mark parts.SectionLength (3 ∷ []) ++ a_text)
 a_section = (a_text, a_lines, (_, a_text, one parts.SectionLength 3 (omega arith), refl, refl))
 
 abbrev pub get_text : Text
@@ -124,7 +124,7 @@ under_input limit = record {
   text = (_, _, one parts.Framing 0 (omega arith), (request_text, _, request_under limit, (_, [], empty_under limit, (refl, refl, refl, refl), refl), refl), refl);
 }
 
-pub get_spelled : Spells defaults (get []) Both 0 get_text
+pub get_spelled : Spells default_bounds (get []) Both 0 get_text
 get_spelled = under_input (Some (2 ^ 24))
 
 pub tail_left_out : TailLeftOut
@@ -273,7 +273,7 @@ b_header = (field_b ∷ [], [], refl, All-cons IsPseudoField field_b [] b_valid 
 abbrev b_text : Text
 b_text = (mark parts.NameLength (2 ∷ []) ++ mark parts.Name (0x3a ∷ 0x62 ∷ [])) ++ (mark parts.ValueLength (0 ∷ []) ++ [])
 
-b_lines : IsLinesWithin defaults (field_b ∷ []) (b_text ++ [])
+b_lines : IsLinesWithin default_bounds (field_b ∷ []) (b_text ++ [])
 b_lines = record {
   lines = (b_text, [], (0x3a ∷ 0x62 ∷ [], refl, (_, _, a_string parts.NameLength parts.Name (0x3a ∷ 0x62 ∷ []) (omega arith), a_string parts.ValueLength parts.Value [] (omega arith), refl)), refl, refl);
   total = omega arith;
@@ -281,7 +281,7 @@ b_lines = record {
   values = All-from_recursion (λ (f : Field). length f.value ≤ 8192) (field_b ∷ []) (omega arith, tt);
 }
 
-b_section : IsSection defaults Known (field_b ∷ []) (mark parts.SectionLength (4 ∷ []) ++ b_text)
+b_section : IsSection default_bounds Known (field_b ∷ []) (mark parts.SectionLength (4 ∷ []) ++ b_text)
 b_section = (b_text, b_lines, (_, b_text, one parts.SectionLength 4 (omega arith), refl, refl))
 
 pub pseudo_field : PseudoField
@@ -324,7 +324,7 @@ post_text = (mark parts.MethodLength (4 ∷ []) ++ mark parts.Method (codes "POS
     ++ ((mark parts.SchemeLength (5 ∷ []) ++ mark parts.Scheme (codes "https"))
     ++ ((mark parts.AuthorityLength (0 ∷ []) ++ []) ++ (mark parts.PathLength (1 ∷ []) ++ mark parts.Path (codes "/"))))
 
-post_spelled : IsRequest defaults (record { method = codes "POST"; scheme = codes "https"; authority = []; path = codes "/" }) post_text
+post_spelled : IsRequest default_bounds (record { method = codes "POST"; scheme = codes "https"; authority = []; path = codes "/" }) post_text
 post_spelled = record {
   scheme = codes "https";
   same_scheme = refl;
@@ -347,8 +347,8 @@ post_spelled = record {
   path_within = omega arith;
 }
 
-no_lines_ended : IsSection defaults Indeterminate [] (mark parts.NameLength (0 ∷ []))
-no_lines_ended = ([], _, no_lines defaults, one parts.NameLength 0 (omega arith), refl)
+no_lines_ended : IsSection default_bounds Indeterminate [] (mark parts.NameLength (0 ∷ []))
+no_lines_ended = ([], _, no_lines default_bounds, one parts.NameLength 0 (omega arith), refl)
 
 abbrev chunk_text : Text
 chunk_text = mark parts.ChunkLength (3 ∷ []) ++ mark parts.Content (codes "abc")

@@ -14,7 +14,7 @@ use Rattle.bh_spec.specs.declared.Omitted.TheVariants.{Nothing, Both}
 use Rattle.bh_spec.specs.declared.Allowed.{Allowed}
 use Rattle.bh_spec.specs.Integers.{vi, byte_count, IsAllowed, Begins, SomeBegins}
 use Rattle.bh_spec.specs.Intervals.{width_of, IsAlive}
-use Rattle.bh_spec.specs.Bounds.{Bounds, IsWithin, no_bounds}
+use Rattle.bh_spec.specs.Bounds.{Bounds, IsWithin, no_bounds, default_bounds}
 use Rattle.bh_spec.specs.Messages.{Message, IsInterim, IsRegularField, IsValid, kind_of}
 use Rattle.bh_spec.specs.Texts.{Text, mark, bytes_of, IsNumber, ◌then◌}
 use Rattle.bh_spec.specs.Sections.{IsSection}
@@ -23,7 +23,7 @@ use Rattle.bh_spec.specs.Spelling.{IsStartText, framing, Spells}
 use Rattle.bh_spec.specs.Viable.{IsViable, NextPart}
 use Rattle.bh_spec.specs.Canonical.{FieldsFit, Fits, integers}
 use Rattle.bh_spec.specs.Alive.{FramingAlive}
-use Rattle.bh_spec.specs.Cases.{get, ok, defaults, FramingTooGreat}
+use Rattle.bh_spec.specs.Cases.{get, ok, FramingTooGreat}
 use Rattle.bh_spec.proofs.Widths.{length-vi}
 use Rattle.bh_spec.proofs.Marks.{marked_bytes}
 use Rattle.bh_spec.proofs.Within.{zero_within, within_less, no_headers}
@@ -179,7 +179,7 @@ dead_number h = not_alive ((alive_by_interval zero_to_three 0x41 [] (All-cons (�
 dead_first : (L : Bounds) → IsViable L (0x41 ∷ []) → ⊥
 dead_first L v = dead_number (begins_if L 0x41 [] (omega arith) v)
 
-nothing_viable : IsViable defaults []
+nothing_viable : IsViable default_bounds []
 nothing_viable = record {
   text = get_text;
   after = _;
@@ -211,11 +211,11 @@ first_part L m o z t h =
       begins = refl;
     }
 
-nothing_next : NextPart defaults [] parts.Framing
-nothing_next = first_part defaults (get []) Both 0 get_text get_spelled
+nothing_next : NextPart default_bounds [] parts.Framing
+nothing_next = first_part default_bounds (get []) Both 0 get_text get_spelled
 
 pub framing_too_great : FramingTooGreat
 framing_too_great = (
-  record { inside = omega arith; seen = omega arith; before = nothing_viable; after = dead_first defaults; next = nothing_next },
+  record { inside = omega arith; seen = omega arith; before = nothing_viable; after = dead_first default_bounds; next = nothing_next },
   dead_first no_bounds,
 )

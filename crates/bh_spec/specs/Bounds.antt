@@ -1,5 +1,5 @@
 -- The limits of a reader. A limit that is None bounds nothing, so "within the limits" and "without limits" are one definition.
-use Rattle.std.specs.Prelude.{ℕ, ◌≤◌, Option, Some, None}
+use Rattle.std.specs.Prelude.{ℕ, ◌≤◌, ◌^◌, Option, Some, None}
 
 pub record Bounds : Type 0 where
   -- bytes of a method, scheme, authority, path, name or value
@@ -17,3 +17,7 @@ IsWithin (Some most) n = n ≤ most
 
 abbrev pub no_bounds : Bounds
 no_bounds = record { part = None; section = None; interims = None; input = None }
+
+-- the limits of a reader that is told none
+abbrev pub default_bounds : Bounds
+default_bounds = record { part = Some 8192; section = Some 65536; interims = Some 16; input = Some (2 ^ 24) }

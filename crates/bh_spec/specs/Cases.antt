@@ -1,18 +1,14 @@
 -- Worked cases: bytes, and the message that they spell or the refusal that they get.
-use Rattle.std.specs.Prelude.{ℕ, ◌≡◌, ◌^◌, List, [], ◌∷◌, ◌++◌, codes, Some}
+use Rattle.std.specs.Prelude.{ℕ, ◌≡◌, List, [], ◌∷◌, ◌++◌, codes, Some}
 use Rattle.bh_spec.specs.declared.Omitted.TheVariants.{Nothing, Trailers, Both}
 use Rattle.bh_spec.specs.declared.Refusal.TheVariants.{Dead, Ended, TooLong}
 use Rattle.bh_spec.specs.declared.Width.TheVariants.{One, Two, Four, Eight}
 use Rattle.bh_spec.specs.declared.Part.TheVariants as parts
 use Rattle.bh_spec.specs.Integers.{vi, int}
-use Rattle.bh_spec.specs.Bounds.{Bounds}
+use Rattle.bh_spec.specs.Bounds.{default_bounds}
 use Rattle.bh_spec.specs.Messages.{Message, Field, request, response}
 use Rattle.bh_spec.specs.Canonical.{canon, known}
 use Rattle.bh_spec.specs.Answers.{whole, refused, IsAnswer}
-
--- the default limits
-abbrev pub defaults : Bounds
-defaults = record { part = Some 8192; section = Some 65536; interims = Some 16; input = Some (2 ^ 24) }
 
 -- a GET of https with these fields, for the path /
 abbrev pub get : List Field → Message
@@ -29,12 +25,12 @@ get_bytes = 0x03 ∷ 0x47 ∷ 0x45 ∷ 0x54 ∷ 0x05 ∷ 0x68 ∷ 0x74 ∷ 0x74 
 
 -- The content and the trailer section are left out; the canonical text leaves out nothing.
 abbrev pub TailLeftOut : Type 0
-TailLeftOut = IsAnswer defaults (0x00 ∷ (get_bytes ++ (0x00 ∷ []))) (whole (get []) Both 0)
+TailLeftOut = IsAnswer default_bounds (0x00 ∷ (get_bytes ++ (0x00 ∷ []))) (whole (get []) Both 0)
     × (canon (get []) ≡ 0x02 ∷ (get_bytes ++ (0x00 ∷ 0x00 ∷ 0x00 ∷ [])))
 
 -- The content and the trailer section are there, and three zeros of padding.
 abbrev pub PaddingCounted : Type 0
-PaddingCounted = IsAnswer defaults (0x00 ∷ (get_bytes ++ (0x00 ∷ 0x00 ∷ 0x00 ∷ 0x00 ∷ 0x00 ∷ 0x00 ∷ []))) (whole (get []) Nothing 3)
+PaddingCounted = IsAnswer default_bounds (0x00 ∷ (get_bytes ++ (0x00 ∷ 0x00 ∷ 0x00 ∷ 0x00 ∷ 0x00 ∷ 0x00 ∷ []))) (whole (get []) Nothing 3)
 
 -- one field with an empty value
 abbrev pub field_a : Field
@@ -42,7 +38,7 @@ field_a = record { name = codes "a"; value = [] }
 
 -- Its name is spelled in upper case, and read and written in lower case.
 abbrev pub UpperCaseName : Type 0
-UpperCaseName = IsAnswer defaults (0x00 ∷ (get_bytes ++ (0x03 ∷ 0x01 ∷ 0x41 ∷ 0x00 ∷ []))) (whole (get (field_a ∷ [])) Both 0)
+UpperCaseName = IsAnswer default_bounds (0x00 ∷ (get_bytes ++ (0x03 ∷ 0x01 ∷ 0x41 ∷ 0x00 ∷ []))) (whole (get (field_a ∷ [])) Both 0)
     × (canon (get (field_a ∷ [])) ≡ 0x02 ∷ (get_bytes ++ (0x01 ∷ 0x61 ∷ 0x00 ∷ 0x00 ∷ 0x00 ∷ 0x00 ∷ [])))
     × (known (get (field_a ∷ [])) ≡ 0x00 ∷ (get_bytes ++ (0x03 ∷ 0x01 ∷ 0x61 ∷ 0x00 ∷ 0x00 ∷ 0x00 ∷ [])))
 
@@ -51,7 +47,7 @@ ok = record { start = response [] 200; fields = []; content = []; trailers = [] 
 
 -- A response with its framing number in four bytes.
 abbrev pub FramingInFourBytes : Type 0
-FramingInFourBytes = IsAnswer defaults (0x80 ∷ 0x00 ∷ 0x00 ∷ 0x01 ∷ 0x40 ∷ 0xc8 ∷ 0x00 ∷ []) (whole ok Both 0)
+FramingInFourBytes = IsAnswer default_bounds (0x80 ∷ 0x00 ∷ 0x00 ∷ 0x01 ∷ 0x40 ∷ 0xc8 ∷ 0x00 ∷ []) (whole ok Both 0)
     × (canon ok ≡ 0x03 ∷ 0x40 ∷ 0xc8 ∷ 0x00 ∷ 0x00 ∷ 0x00 ∷ [])
 
 -- a POST of https with the content abc, for the path /
@@ -68,14 +64,14 @@ post_bytes = 0x02 ∷ 0x04 ∷ 0x50 ∷ 0x4f ∷ 0x53 ∷ 0x54 ∷ 0x05 ∷ 0x68
 
 -- Chunked content, and the trailer section is left out.
 abbrev pub TrailersLeftOut : Type 0
-TrailersLeftOut = IsAnswer defaults post_bytes (whole post Trailers 0) × (canon post ≡ post_bytes ++ (0x00 ∷ []))
+TrailersLeftOut = IsAnswer default_bounds post_bytes (whole post Trailers 0) × (canon post ≡ post_bytes ++ (0x00 ∷ []))
 
 -- A response behind an interim response: a status of 103 and an empty section.
 abbrev pub hinted : Message
 hinted = record { start = response (record { status = 103; fields = [] } ∷ []) 200; fields = []; content = []; trailers = [] }
 
 abbrev pub InterimResponse : Type 0
-InterimResponse = IsAnswer defaults (0x01 ∷ 0x40 ∷ 0x67 ∷ 0x00 ∷ 0x40 ∷ 0xc8 ∷ 0x00 ∷ []) (whole hinted Both 0)
+InterimResponse = IsAnswer default_bounds (0x01 ∷ 0x40 ∷ 0x67 ∷ 0x00 ∷ 0x40 ∷ 0xc8 ∷ 0x00 ∷ []) (whole hinted Both 0)
     × (canon hinted ≡ 0x03 ∷ 0x40 ∷ 0x67 ∷ 0x00 ∷ 0x40 ∷ 0xc8 ∷ 0x00 ∷ 0x00 ∷ 0x00 ∷ [])
 
 -- a pseudo-field with an empty value
@@ -84,7 +80,7 @@ field_b = record { name = codes ":b"; value = [] }
 
 -- It may stand in a header section.
 abbrev pub PseudoField : Type 0
-PseudoField = IsAnswer defaults (0x00 ∷ (get_bytes ++ (0x04 ∷ 0x02 ∷ 0x3a ∷ 0x62 ∷ 0x00 ∷ []))) (whole (get (field_b ∷ [])) Both 0)
+PseudoField = IsAnswer default_bounds (0x00 ∷ (get_bytes ++ (0x04 ∷ 0x02 ∷ 0x3a ∷ 0x62 ∷ 0x00 ∷ []))) (whole (get (field_b ∷ [])) Both 0)
     × (canon (get (field_b ∷ [])) ≡ 0x02 ∷ (get_bytes ++ (0x02 ∷ 0x3a ∷ 0x62 ∷ 0x00 ∷ 0x00 ∷ 0x00 ∷ 0x00 ∷ [])))
 
 -- One byte more than the limit of the input; what stands before it is a message.
@@ -93,11 +89,11 @@ InputTooLong = IsAnswer (record { part = Some 8192; section = Some 65536; interi
 
 -- The first byte shows a framing number of 256 or more.
 abbrev pub FramingTooGreat : Type 0
-FramingTooGreat = IsAnswer defaults (0x41 ∷ []) (refused (Dead 0 parts.Framing))
+FramingTooGreat = IsAnswer default_bounds (0x41 ∷ []) (refused (Dead 0 parts.Framing))
 
 -- The input ends where the header section begins, which can't be left out.
 abbrev pub HeaderSectionMissing : Type 0
-HeaderSectionMissing = IsAnswer defaults (0x00 ∷ get_bytes) (refused (Ended 14 parts.SectionLength))
+HeaderSectionMissing = IsAnswer default_bounds (0x00 ∷ get_bytes) (refused (Ended 14 parts.SectionLength))
 
 -- The vectors of RFC 9000, appendix A.1.
 abbrev pub IntegerVectors : Type 0

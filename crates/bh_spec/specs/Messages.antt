@@ -75,14 +75,20 @@ pub record IsScheme (scheme : List ℕ) : Type 0 where
   pub each : All (λ byte. IsTrue (is_scheme byte)) scheme
   pub lower_case : lower scheme ≡ scheme
 
+-- the schemes of the web
+abbrev pub IsWeb : List ℕ → Type 0
+IsWeb scheme = (scheme ≡ codes "http") ⊎ (scheme ≡ codes "https")
+
+-- with such a scheme a path begins with a slash, or is the star of OPTIONS
+abbrev pub IsWebPath : Control → List ℕ → Type 0
+IsWebPath c path = IsWeb c.scheme → ((rest : List ℕ) × (path ≡ 47 ∷ rest)) ⊎ ((c.method ≡ codes "OPTIONS") × (path ≡ codes "*"))
+
 pub record IsControl (c : Control) : Type 0 where
   pub method : IsToken c.method
   pub scheme : IsScheme c.scheme
   pub authority : All (λ byte. IsTrue (is_authority byte)) c.authority
   pub path : All (λ byte. IsTrue (is_path byte)) c.path
-  -- a path of http or https begins with a slash, or is the star of OPTIONS
-  pub web : (c.scheme ≡ codes "http") ⊎ (c.scheme ≡ codes "https")
-      → ((rest : List ℕ) × (c.path ≡ 47 ∷ rest)) ⊎ ((c.method ≡ codes "OPTIONS") × (c.path ≡ codes "*"))
+  pub web : IsWebPath c c.path
 
 pub record IsInterim (interim : Interim) : Type 0 where
   pub low : 100 ≤ interim.status

@@ -15,7 +15,10 @@ ghost use Rattle.bh_varint.specs.Step.{IsWhole, IsUnfinished, GoesOn, Shows, byt
 pub use bh_spec::{Allowed, Rest, Span, Width};
 use std::marker::Model;
 
-/// The least width that can hold `n`, which is at most 2^62 - 1.
+/// The greatest integer, 2^62 - 1.
+pub const GREATEST: u64 = (1 << 62) - 1;
+
+/// The least width that can hold `n`, which is at most `GREATEST`.
 pub fn least_width(n: u64) -> Width
     requires { n ≤ greatest }
     ensures value { result ≡ least_width n }

@@ -5,7 +5,7 @@ use Rattle.bh_varint.specs.Step.{IsWhole, GoesOn}
 use Rattle.bh_fields.specs.declared.walk.Judged.TheVariants as judged
 use Rattle.bh_fields.specs.declared.walk.Phase.{Phase}
 use Rattle.bh_fields.specs.Sets.{lines_set}
-use Rattle.bh_fields.specs.Points.{Point, point_of, most_of, NextState, Outcome}
+use Rattle.bh_fields.specs.Points.{Point, point_of, most_of, NextState, IsStep}
 use Rattle.bh_fields.proofs.Moves.{length_more, length_whole, length_limit, length_dead}
 use Rattle.bh_fields.proofs.Changes.{with_number, of_total, moved, most_is}
 use Rattle.bh_fields.proofs.walk.Walk.take_length.Goals as goal
@@ -25,7 +25,7 @@ returns-in-More c =
     let p : Point = point_of c.args.self.now in
     let set : c.length_set-within.result ≡ lines_set (most_of p.limits) = c.length_set-within.ensures ∙ ap lines_set (most_is p.limits c.section.result c.section.ensures.value) in
     let k = c.push_reserved.new.self in
-    subst (λ (phase : Phase). Outcome judged.More p c.args.byte phase (with_number c.judge.new.number k.items (vec_capacity k) p)) (sym c.requires.phase)
+    subst (λ (phase : Phase). IsStep judged.More p c.args.byte phase (with_number c.judge.new.number k.items (vec_capacity k) p)) (sym c.requires.phase)
     (length_more p c.args.byte c.judge.new.number k.items (vec_capacity k) c.requires.sized c.requires.state
     (subst (λ (s : Allowed). GoesOn s (p.number ++ c.args.byte ∷ [])) set c.in-More.ensures.judges)
     c.in-More.ensures.kept c.push_reserved.ensures.items c.push_reserved.ensures.capacity)
@@ -42,7 +42,7 @@ returns-in-Limit c =
     let p : Point = point_of c.args.self.now in
     let set : c.length_set-within.result ≡ lines_set (most_of p.limits) = c.length_set-within.ensures ∙ ap lines_set (most_is p.limits c.section.result c.section.ensures.value) in
     let bytes : List ℕ = p.number ++ c.args.byte ∷ [] in
-    subst (λ (x : List ℕ). Outcome judged.Limit p c.args.byte c.args.self.now.phase (with_number x p.kept p.capacity p)) (sym c.in-Limit.ensures.kept)
+    subst (λ (x : List ℕ). IsStep judged.Limit p c.args.byte c.args.self.now.phase (with_number x p.kept p.capacity p)) (sym c.in-Limit.ensures.kept)
     (length_limit p c.args.byte c.args.self.now.phase c.requires.sized c.requires.state
     (λ s. c.in-Limit.ensures.judges.0 (subst (λ (x : Allowed). SomeBegins x bytes) (sym set) s))
     (subst (λ (x : Allowed). SomeBegins x bytes) c.length_set-free.ensures c.in-Limit.ensures.judges.1))
@@ -52,7 +52,7 @@ returns-in-Dead c =
     let p : Point = point_of c.args.self.now in
     let set : c.length_set-within.result ≡ lines_set (most_of p.limits) = c.length_set-within.ensures ∙ ap lines_set (most_is p.limits c.section.result c.section.ensures.value) in
     let bytes : List ℕ = p.number ++ c.args.byte ∷ [] in
-    subst (λ (x : List ℕ). Outcome judged.Dead p c.args.byte c.args.self.now.phase (with_number x p.kept p.capacity p)) (sym c.in-Dead.ensures.kept)
+    subst (λ (x : List ℕ). IsStep judged.Dead p c.args.byte c.args.self.now.phase (with_number x p.kept p.capacity p)) (sym c.in-Dead.ensures.kept)
     (length_dead p c.args.byte c.args.self.now.phase c.requires.sized c.requires.state
     (λ s. c.in-Dead.ensures.judges.0 (subst (λ (x : Allowed). SomeBegins x bytes) (sym set) s))
     (λ s. c.in-Dead.ensures.judges.1 (subst (λ (x : Allowed). SomeBegins x bytes) (sym c.length_set-free.ensures) s)))

@@ -6,7 +6,7 @@ use Rattle.bh_varint.specs.Step.{IsWhole, GoesOn}
 use Rattle.bh_fields.specs.declared.walk.Judged.TheVariants as judged
 use Rattle.bh_fields.specs.declared.walk.Phase.{Phase}
 use Rattle.bh_fields.specs.Sets.{names_set, free_room}
-use Rattle.bh_fields.specs.Points.{Point, point_of, part_of, NamedState, Outcome}
+use Rattle.bh_fields.specs.Points.{Point, point_of, part_of, NamedState, IsStep}
 use Rattle.bh_spec.proofs.Widths.{count_1}
 use Rattle.bh_fields.proofs.Moves.{line_more, line_whole, line_limit, line_dead}
 use Rattle.bh_fields.proofs.Changes.{line_fits, with_number, moved, part_is}
@@ -30,7 +30,7 @@ returns-in-More c =
     let set : c.name_set-within.result ≡ names_set p.form (part_of p.limits) (Some (p.total - p.used)) =
     c.name_set-within.ensures ∙ ap (λ (x : ℕ). names_set p.form x (Some (p.total - p.used))) (part_is p.limits c.part.result c.part.ensures.value) in
     let k = c.push_reserved.new.self in
-    subst (λ (phase : Phase). Outcome judged.More p c.args.byte phase (with_number c.judge.new.number k.items (vec_capacity k) p)) (sym c.requires.phase)
+    subst (λ (phase : Phase). IsStep judged.More p c.args.byte phase (with_number c.judge.new.number k.items (vec_capacity k) p)) (sym c.requires.phase)
     (line_more p c.args.byte c.judge.new.number k.items (vec_capacity k) c.requires.sized c.requires.state
     (subst (λ (s : Allowed). GoesOn s (p.number ++ c.args.byte ∷ [])) set c.in-More.ensures.judges)
     c.in-More.ensures.kept c.push_reserved.ensures.items c.push_reserved.ensures.capacity)
@@ -43,7 +43,7 @@ returns-in-Limit c =
     let free : c.name_set-free.result ≡ names_set p.form greatest (free_room p.form (p.total - p.used)) =
     c.name_set-free.ensures ∙ ap (λ (x : Option ℕ). names_set p.form greatest x) c.room_without_limits.ensures in
     let bytes : List ℕ = p.number ++ c.args.byte ∷ [] in
-    subst (λ (x : List ℕ). Outcome judged.Limit p c.args.byte c.args.self.now.phase (with_number x p.kept p.capacity p)) (sym c.in-Limit.ensures.kept)
+    subst (λ (x : List ℕ). IsStep judged.Limit p c.args.byte c.args.self.now.phase (with_number x p.kept p.capacity p)) (sym c.in-Limit.ensures.kept)
     (line_limit p c.args.byte c.args.self.now.phase c.requires.sized c.requires.state
     (λ s. c.in-Limit.ensures.judges.0 (subst (λ (x : Allowed). SomeBegins x bytes) (sym set) s))
     (subst (λ (x : Allowed). SomeBegins x bytes) free c.in-Limit.ensures.judges.1))
@@ -56,7 +56,7 @@ returns-in-Dead c =
     let free : c.name_set-free.result ≡ names_set p.form greatest (free_room p.form (p.total - p.used)) =
     c.name_set-free.ensures ∙ ap (λ (x : Option ℕ). names_set p.form greatest x) c.room_without_limits.ensures in
     let bytes : List ℕ = p.number ++ c.args.byte ∷ [] in
-    subst (λ (x : List ℕ). Outcome judged.Dead p c.args.byte c.args.self.now.phase (with_number x p.kept p.capacity p)) (sym c.in-Dead.ensures.kept)
+    subst (λ (x : List ℕ). IsStep judged.Dead p c.args.byte c.args.self.now.phase (with_number x p.kept p.capacity p)) (sym c.in-Dead.ensures.kept)
     (line_dead p c.args.byte c.args.self.now.phase c.requires.sized c.requires.state
     (λ s. c.in-Dead.ensures.judges.0 (subst (λ (x : Allowed). SomeBegins x bytes) (sym set) s))
     (λ s. c.in-Dead.ensures.judges.1 (subst (λ (x : Allowed). SomeBegins x bytes) (sym free) s)))
