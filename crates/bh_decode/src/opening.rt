@@ -84,38 +84,22 @@ pub fn read_opening(
     ensures stops { IfErr result (FailsFor (λ L. IsResponseText L form 0) reader.old.limits bytes.now) }
 {
     let mut interims = Interims::none(alloc);
-    let mut taken = 0;
+    let mut done = 0;
     loop {
-        match read_part(
-            alloc,
-            most,
-            reader,
-            form,
-            interims.len(),
-            behind(bytes, taken),
-        ) {
-            Ok(
-                ResponsePart::Interim {
-                    interim,
-                    taken: more,
-                },
-            ) => {
+        let rest = behind(bytes, done);
+        match read_part(alloc, most, reader, form, interims.len(), rest) {
+            Ok(ResponsePart::Interim { interim, taken }) => {
                 interims.push(interim)?;
-                taken += more;
+                done += taken;
             }
-            Ok(
-                ResponsePart::Final {
-                    status,
-                    taken: more,
-                },
-            ) => {
+            Ok(ResponsePart::Final { status, taken }) => {
                 return Ok(Opening {
                     interims,
                     status,
-                    taken: taken + more,
+                    taken: done + taken,
                 });
             }
-            Err(fault) => return Err(fault.behind(taken)),
+            Err(fault) => return Err(fault.behind(done)),
         }
     }
 }

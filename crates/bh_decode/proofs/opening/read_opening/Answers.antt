@@ -15,42 +15,42 @@ loop-interim-init c = record {
 
 pub loop-interim-smaller : goal.loop-interim-smaller
 loop-interim-smaller c =
-    let step = part_here c.loop-interim.reader.limits c.args.reader.now.limits c.args.form c.len.result (length c.loop-interim.interims) c.behind.result.now (drop c.loop-interim.taken c.args.bytes.now)
-    (found.Interim c.in-Ok-Interim.interim c.in-Ok-Interim.more) c.loop-interim.invariant.limits c.len.ensures c.behind.ensures (subst (λ (x : ResponsePart). ResponsePartIs c.loop-interim.reader.limits c.args.form c.len.result c.behind.result.now x) c.in-Ok-Interim.field-0-is c.in-Ok-Interim.ensures.whole) in
-    let long = part_long c.args.reader.now.limits c.args.form (length c.loop-interim.interims) (drop c.loop-interim.taken c.args.bytes.now) c.in-Ok-Interim.interim c.in-Ok-Interim.more step in
-    omega (arith, long.0, long.1, length-drop c.loop-interim.taken c.args.bytes.now, c.loop-interim.invariant.opened.within)
+    let step = part_here c.loop-interim.reader.limits c.args.reader.now.limits c.args.form c.len.result (length c.loop-interim.interims) c.behind-rest.result.now (drop c.loop-interim.done c.args.bytes.now)
+    (found.Interim c.in-Ok-Interim.interim c.in-Ok-Interim.taken) c.loop-interim.invariant.limits c.len.ensures c.behind-rest.ensures (subst (λ (x : ResponsePart). ResponsePartIs c.loop-interim.reader.limits c.args.form c.len.result c.behind-rest.result.now x) c.in-Ok-Interim.field-0-is c.in-Ok-Interim.ensures.whole) in
+    let long = part_long c.args.reader.now.limits c.args.form (length c.loop-interim.interims) (drop c.loop-interim.done c.args.bytes.now) c.in-Ok-Interim.interim c.in-Ok-Interim.taken step in
+    omega (arith, long.0, long.1, length-drop c.loop-interim.done c.args.bytes.now, c.loop-interim.invariant.opened.within)
 
 pub loop-interim-preserved : goal.loop-interim-preserved
 loop-interim-preserved c =
-    let step = part_here c.loop-interim.reader.limits c.args.reader.now.limits c.args.form c.len.result (length c.loop-interim.interims) c.behind.result.now (drop c.loop-interim.taken c.args.bytes.now)
-    (found.Interim c.in-Ok-Interim.interim c.in-Ok-Interim.more) c.loop-interim.invariant.limits c.len.ensures c.behind.ensures (subst (λ (x : ResponsePart). ResponsePartIs c.loop-interim.reader.limits c.args.form c.len.result c.behind.result.now x) c.in-Ok-Interim.field-0-is c.in-Ok-Interim.ensures.whole) in
+    let step = part_here c.loop-interim.reader.limits c.args.reader.now.limits c.args.form c.len.result (length c.loop-interim.interims) c.behind-rest.result.now (drop c.loop-interim.done c.args.bytes.now)
+    (found.Interim c.in-Ok-Interim.interim c.in-Ok-Interim.taken) c.loop-interim.invariant.limits c.len.ensures c.behind-rest.ensures (subst (λ (x : ResponsePart). ResponsePartIs c.loop-interim.reader.limits c.args.form c.len.result c.behind-rest.result.now x) c.in-Ok-Interim.field-0-is c.in-Ok-Interim.ensures.whole) in
     record {
-      opened = subst (λ (is : List held.Interim). Opened c.args.reader.now.limits c.args.form is c.args.bytes.now (c.loop-interim.taken + c.in-Ok-Interim.more)) (sym c.in_ok-push-in-Ok-Interim.ensures.ok)
-          (opened_more c.args.reader.now.limits c.args.form c.loop-interim.interims c.in-Ok-Interim.interim c.args.bytes.now c.loop-interim.taken c.in-Ok-Interim.more c.loop-interim.invariant.opened step);
+      opened = subst (λ (is : List held.Interim). Opened c.args.reader.now.limits c.args.form is c.args.bytes.now (c.loop-interim.done + c.in-Ok-Interim.taken)) (sym c.in_ok-push-in-Ok-Interim.ensures.ok)
+          (opened_more c.args.reader.now.limits c.args.form c.loop-interim.interims c.in-Ok-Interim.interim c.args.bytes.now c.loop-interim.done c.in-Ok-Interim.taken c.loop-interim.invariant.opened step);
       limits = c.in-Ok-Interim.ensures.limits ∙ c.loop-interim.invariant.limits;
     }
 
 pub returns-in-Ok-Final-clause-whole : goal.returns-in-Ok-Final-clause-whole
 returns-in-Ok-Final-clause-whole c =
-    opening_whole c.args.reader.now.limits c.args.form c.loop-interim.interims c.in-Ok-Final.status c.args.bytes.now c.loop-interim.taken c.in-Ok-Final.more c.loop-interim.invariant.opened
-    (part_here c.loop-interim.reader.limits c.args.reader.now.limits c.args.form c.len.result (length c.loop-interim.interims) c.behind.result.now (drop c.loop-interim.taken c.args.bytes.now)
-    (found.Final c.in-Ok-Final.status c.in-Ok-Final.more) c.loop-interim.invariant.limits c.len.ensures c.behind.ensures (subst (λ (x : ResponsePart). ResponsePartIs c.loop-interim.reader.limits c.args.form c.len.result c.behind.result.now x) c.in-Ok-Final.field-0-is c.in-Ok-Final.ensures.whole))
+    opening_whole c.args.reader.now.limits c.args.form c.loop-interim.interims c.in-Ok-Final.status c.args.bytes.now c.loop-interim.done c.in-Ok-Final.taken c.loop-interim.invariant.opened
+    (part_here c.loop-interim.reader.limits c.args.reader.now.limits c.args.form c.len.result (length c.loop-interim.interims) c.behind-rest.result.now (drop c.loop-interim.done c.args.bytes.now)
+    (found.Final c.in-Ok-Final.status c.in-Ok-Final.taken) c.loop-interim.invariant.limits c.len.ensures c.behind-rest.ensures (subst (λ (x : ResponsePart). ResponsePartIs c.loop-interim.reader.limits c.args.form c.len.result c.behind-rest.result.now x) c.in-Ok-Final.field-0-is c.in-Ok-Final.ensures.whole))
 
 pub returns-in-Ok-Final-clause-behind : goal.returns-in-Ok-Final-clause-behind
 returns-in-Ok-Final-clause-behind c =
-    opening_behind c.args.reader.now.limits c.args.form c.loop-interim.interims c.in-Ok-Final.status c.args.bytes.now c.loop-interim.taken c.in-Ok-Final.more c.loop-interim.invariant.opened
-    (part_here c.loop-interim.reader.limits c.args.reader.now.limits c.args.form c.len.result (length c.loop-interim.interims) c.behind.result.now (drop c.loop-interim.taken c.args.bytes.now)
-    (found.Final c.in-Ok-Final.status c.in-Ok-Final.more) c.loop-interim.invariant.limits c.len.ensures c.behind.ensures (subst (λ (x : ResponsePart). ResponsePartIs c.loop-interim.reader.limits c.args.form c.len.result c.behind.result.now x) c.in-Ok-Final.field-0-is c.in-Ok-Final.ensures.whole))
+    opening_behind c.args.reader.now.limits c.args.form c.loop-interim.interims c.in-Ok-Final.status c.args.bytes.now c.loop-interim.done c.in-Ok-Final.taken c.loop-interim.invariant.opened
+    (part_here c.loop-interim.reader.limits c.args.reader.now.limits c.args.form c.len.result (length c.loop-interim.interims) c.behind-rest.result.now (drop c.loop-interim.done c.args.bytes.now)
+    (found.Final c.in-Ok-Final.status c.in-Ok-Final.taken) c.loop-interim.invariant.limits c.len.ensures c.behind-rest.ensures (subst (λ (x : ResponsePart). ResponsePartIs c.loop-interim.reader.limits c.args.form c.len.result c.behind-rest.result.now x) c.in-Ok-Final.field-0-is c.in-Ok-Final.ensures.whole))
 
 pub returns-in-Ok-Final-clause-anyway : goal.returns-in-Ok-Final-clause-anyway
 returns-in-Ok-Final-clause-anyway c =
-    opening_anyway c.args.reader.now.limits c.args.form c.loop-interim.interims c.in-Ok-Final.status c.args.bytes.now c.loop-interim.taken c.in-Ok-Final.more c.loop-interim.invariant.opened
-    (part_here c.loop-interim.reader.limits c.args.reader.now.limits c.args.form c.len.result (length c.loop-interim.interims) c.behind.result.now (drop c.loop-interim.taken c.args.bytes.now)
-    (found.Final c.in-Ok-Final.status c.in-Ok-Final.more) c.loop-interim.invariant.limits c.len.ensures c.behind.ensures (subst (λ (x : ResponsePart). ResponsePartIs c.loop-interim.reader.limits c.args.form c.len.result c.behind.result.now x) c.in-Ok-Final.field-0-is c.in-Ok-Final.ensures.whole))
+    opening_anyway c.args.reader.now.limits c.args.form c.loop-interim.interims c.in-Ok-Final.status c.args.bytes.now c.loop-interim.done c.in-Ok-Final.taken c.loop-interim.invariant.opened
+    (part_here c.loop-interim.reader.limits c.args.reader.now.limits c.args.form c.len.result (length c.loop-interim.interims) c.behind-rest.result.now (drop c.loop-interim.done c.args.bytes.now)
+    (found.Final c.in-Ok-Final.status c.in-Ok-Final.taken) c.loop-interim.invariant.limits c.len.ensures c.behind-rest.ensures (subst (λ (x : ResponsePart). ResponsePartIs c.loop-interim.reader.limits c.args.form c.len.result c.behind-rest.result.now x) c.in-Ok-Final.field-0-is c.in-Ok-Final.ensures.whole))
 
 pub returns-in-Err-clause-stops : goal.returns-in-Err-clause-stops
 returns-in-Err-clause-stops c =
-    rw (c.behind-in-Err.ensures)
-    (opening_fault c.args.reader.now.limits c.args.form c.loop-interim.interims c.args.bytes.now c.loop-interim.taken c.in-Err.fault c.loop-interim.invariant.opened
-    (fault_here c.loop-interim.reader.limits c.args.reader.now.limits c.args.form c.len.result (length c.loop-interim.interims) c.behind.result.now (drop c.loop-interim.taken c.args.bytes.now) c.in-Err.fault
-    c.loop-interim.invariant.limits c.len.ensures c.behind.ensures c.in-Err.ensures.stops))
+    rw (c.behind.ensures)
+    (opening_fault c.args.reader.now.limits c.args.form c.loop-interim.interims c.args.bytes.now c.loop-interim.done c.in-Err.fault c.loop-interim.invariant.opened
+    (fault_here c.loop-interim.reader.limits c.args.reader.now.limits c.args.form c.len.result (length c.loop-interim.interims) c.behind-rest.result.now (drop c.loop-interim.done c.args.bytes.now) c.in-Err.fault
+    c.loop-interim.invariant.limits c.len.ensures c.behind-rest.ensures c.in-Err.ensures.stops))

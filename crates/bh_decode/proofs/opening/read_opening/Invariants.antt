@@ -4,9 +4,9 @@ use Rattle.bh_decode.proofs.opening.read_opening.Given as goal
 
 abbrev pub invariant-loop-interim : goal.invariant-loop-interim
 invariant-loop-interim l = record {
-  opened : Opened l.fn.reader.limits l.form l.interims l.bytes l.taken;
+  opened : Opened l.fn.reader.limits l.form l.interims l.bytes l.done;
   limits : l.reader.limits ≡ l.fn.reader.limits;
 }
 
 abbrev pub decreases-loop-interim : goal.decreases-loop-interim
-decreases-loop-interim l = length l.bytes - l.taken
+decreases-loop-interim l = length l.bytes - l.done
