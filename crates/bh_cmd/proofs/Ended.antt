@@ -3,7 +3,7 @@ use Rattle.std.proofs.Common.{◌≡◌, ℕ, Bool, false, List, [], Option, Som
 use Rattle.std.specs.Io.KnownBytes.{Appends}
 use Rattle.bh_base.specs.declared.failed.Failed.{Failed}
 use Rattle.bh_base.specs.Steps.{Rose, none}
-use Rattle.bh_spec.specs.Bounds.{default_bounds}
+use Rattle.bh_model.specs.Ranges.{default_bounds}
 use Rattle.bh_canon.specs.declared.engine.CanonEnd.{CanonEnd}
 use Rattle.bh_canon.specs.declared.engine.CanonEnd.TheVariants as ends
 use Rattle.bh_canon.specs.Ends.{CanonRun, IsTold, IsComplete}

@@ -3,7 +3,7 @@ use Rattle.std.specs.Prelude.{◌≡◌, ℕ, Bool, List, [], ◌∷◌, map, co
 use Rattle.std.specs.declared.alloc.Global.{Global}
 use Rattle.bh_base.specs.declared.failed.Failed.{Failed}
 use Rattle.bh_base.specs.Steps.{Rose}
-use Rattle.bh_spec.specs.Bounds.{default_bounds}
+use Rattle.bh_model.specs.Ranges.{default_bounds}
 use Rattle.bh_canon.specs.Ends.{CanonRun, IsTold, IsComplete}
 use Rattle.bh_cmd.specs.declared.exits.Exit.{Exit}
 use Rattle.bh_cmd.specs.declared.exits.Exit.TheVariants.{ReadFault, WriteFault}
