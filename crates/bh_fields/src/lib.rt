@@ -13,6 +13,7 @@ mod tests;
 mod walk;
 
 pub use laws::{
-    name_byte_alive, name_length_alive, section_length_alive, value_byte_alive, value_length_alive,
+    name_byte_alive, name_length_alive, one_next_part, one_section, section_length_alive,
+    value_byte_alive, value_length_alive,
 };
 pub use reader::{SectionReader, SectionStep};

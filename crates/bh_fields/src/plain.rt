@@ -167,71 +167,107 @@ fn value_spans(form: Form, left: u64, width: u64) -> ([(u64, u64); 2], [(u64, u6
     }
 }
 
+/// Where a plain reader stands: the next byte, what is left of the section, and whether a pseudo-field may come.
+#[derive(Clone, Copy)]
+struct Spot {
+    at: usize,
+    left: u64,
+    pseudo: bool,
+}
+
+/// The length of a name or value, and the spot behind it. An error is the answer for the section.
+fn take_length(
+    bytes: &[u8],
+    spot: Spot,
+    form: Form,
+    part: Part,
+) -> Result<(usize, Spot), SectionStep> {
+    let Some(first) = from(bytes, spot.at).first() else {
+        return Err(SectionStep::Need);
+    };
+    let width = width_of(*first) as u64;
+    let spans = match part {
+        Part::NameLength => name_spans(form, spot.left, width),
+        _ => value_spans(form, spot.left, width),
+    };
+    match number(from(bytes, spot.at), &spans.0, &spans.1) {
+        Fate::Number(long, width) => Ok((
+            long as usize,
+            Spot {
+                at: spot.at.saturating_add(width),
+                left: spot.left.saturating_sub(long.saturating_add(width as u64)),
+                pseudo: spot.pseudo,
+            },
+        )),
+        fate => Err(refusal(spot.at, &fate, part)),
+    }
+}
+
+/// The spot behind a name.
+fn take_name(bytes: &[u8], start: Spot, form: Form) -> Result<Spot, SectionStep> {
+    let (long, spot) = take_length(bytes, start, form, Part::NameLength)?;
+    if long == 0 {
+        return Err(SectionStep::Whole { taken: spot.at });
+    }
+    let name = from(bytes, spot.at);
+    if let Some(i) = bad_name_byte(name, long, spot.pseudo) {
+        return Err(refusal(spot.at, &Fate::Dead(i), Part::Name));
+    }
+    Ok(Spot {
+        at: spot.at.saturating_add(long),
+        left: spot.left,
+        pseudo: spot.pseudo && name.first() == Some(&b':'),
+    })
+}
+
+/// The spot behind a value.
+fn take_value(bytes: &[u8], start: Spot, form: Form) -> Result<Spot, SectionStep> {
+    let (long, spot) = take_length(bytes, start, form, Part::ValueLength)?;
+    if let Some(i) = bad_value_byte(from(bytes, spot.at), long) {
+        return Err(refusal(spot.at, &Fate::Dead(i), Part::Value));
+    }
+    let at = spot.at.saturating_add(long);
+    if bytes.len() < at {
+        return Err(SectionStep::Need);
+    }
+    Ok(Spot {
+        at,
+        left: spot.left,
+        pseudo: spot.pseudo,
+    })
+}
+
+/// The spot behind the lines of a section.
+fn lines(bytes: &[u8], start: Spot, form: Form) -> Result<Spot, SectionStep> {
+    let mut spot = start;
+    for _ in bytes {
+        if form == Form::Known && spot.left == 0 {
+            return Ok(spot);
+        }
+        spot = take_value(bytes, take_name(bytes, spot, form)?, form)?;
+    }
+    Ok(spot)
+}
+
 /// The answer for a header section.
 pub fn answer(bytes: &[u8], form: Form) -> SectionStep {
-    let mut at = 0_usize;
-    let mut left = 32_u64;
-    let mut pseudo = true;
+    let mut start = Spot {
+        at: 0,
+        left: 32,
+        pseudo: true,
+    };
     if form == Form::Known {
         match number(bytes, &[(0, 0), (3, 32)], &[(0, 0), (3, GREATEST)]) {
             Fate::Number(value, width) => {
-                at = width;
-                left = value;
+                start.at = width;
+                start.left = value;
             }
             fate => return refusal(0, &fate, Part::SectionLength),
         }
     }
-    for _ in bytes {
-        if form == Form::Known && left == 0 {
-            return SectionStep::Whole { taken: at };
-        }
-        let Some(first) = from(bytes, at).first() else {
-            return SectionStep::Need;
-        };
-        let spans = name_spans(form, left, width_of(*first) as u64);
-        let (long, width) = match number(from(bytes, at), &spans.0, &spans.1) {
-            Fate::Number(value, width) => (value, width),
-            fate => return refusal(at, &fate, Part::NameLength),
-        };
-        if long == 0 {
-            return SectionStep::Whole {
-                taken: at.saturating_add(width),
-            };
-        }
-        at = at.saturating_add(width);
-        left = left.saturating_sub(long.saturating_add(width as u64));
-        if let Some(i) = bad_name_byte(from(bytes, at), long as usize, pseudo) {
-            return SectionStep::Dead {
-                offset: at.saturating_add(i),
-                part: Part::Name,
-            };
-        }
-        pseudo &= from(bytes, at).first() == Some(&b':');
-        at = at.saturating_add(long as usize);
-        let Some(first) = from(bytes, at).first() else {
-            return SectionStep::Need;
-        };
-        let spans = value_spans(form, left, width_of(*first) as u64);
-        let (long, width) = match number(from(bytes, at), &spans.0, &spans.1) {
-            Fate::Number(value, width) => (value, width),
-            fate => return refusal(at, &fate, Part::ValueLength),
-        };
-        at = at.saturating_add(width);
-        left = left.saturating_sub(long.saturating_add(width as u64));
-        if let Some(i) = bad_value_byte(from(bytes, at), long as usize) {
-            return SectionStep::Dead {
-                offset: at.saturating_add(i),
-                part: Part::Value,
-            };
-        }
-        if bytes.len() < at.saturating_add(long as usize) {
-            return SectionStep::Need;
-        }
-        at = at.saturating_add(long as usize);
-    }
-    if form == Form::Known && left == 0 {
-        SectionStep::Whole { taken: at }
-    } else {
-        SectionStep::Need
+    match lines(bytes, start, form) {
+        Ok(spot) if form == Form::Known && spot.left == 0 => SectionStep::Whole { taken: spot.at },
+        Ok(_) => SectionStep::Need,
+        Err(step) => step,
     }
 }
