@@ -1,5 +1,5 @@
 -- Which strings keep the rule of a place, byte by byte.
-use Rattle.std.proofs.Common.{◌≡◌, ◌<◌, ◌≤◌, ◌⊎◌, inl, inr, arith, ℕ, zero, suc, Bool, List, [], ◌∷◌, ◌++◌, length, replicate, All, IsTrue, codes, refl, sym, ap, ap₂, subst, ◌∙◌, append_assoc, append-nil}
+use Rattle.std.proofs.Common.{◌≡◌, ◌<◌, ◌≤◌, inl, inr, arith, ℕ, zero, suc, Bool, List, [], ◌∷◌, ◌++◌, length, replicate, All, IsTrue, refl, sym, ap, ap₂, subst, ◌∙◌, append_assoc, append-nil}
 use Rattle.std.specs.Char.{to_ascii_lowercase}
 use Rattle.std.proofs.lemmas.Bool.{agree_below_at}
 use Rattle.std.proofs.lemmas.Str.Ascii.{lowercase-lowercase}

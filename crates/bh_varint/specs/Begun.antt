@@ -1,5 +1,5 @@
 -- What is stored of the first bytes of an integer.
-use Rattle.std.specs.Prelude.{ℕ, ◌≡◌, ◌<◌, ◌≤◌, ◌+◌, ◌-◌, ◌*◌, ◌^◌, ◌%◌, List, [], ◌∷◌, length, All, Option, Some, None}
+use Rattle.std.specs.Prelude.{ℕ, ◌≡◌, ◌<◌, ◌≤◌, ◌+◌, ◌-◌, ◌*◌, ◌^◌, ◌%◌, List, [], ◌∷◌, length, Option, Some, None}
 use Rattle.std.specs.Int.{bytes_high_first}
 use Rattle.bh_spec.specs.Bytes.{AreBytes}
 use Rattle.bh_spec.specs.Integers.{byte_count, tag_of}
