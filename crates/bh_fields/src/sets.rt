@@ -7,18 +7,6 @@ ghost use Rattle.bh_fields.specs.Sets.{lines_set, names_set, values_set, Judges,
 use bh_spec::Form;
 use bh_varint::{Allowed, Partial, Rest, Span, Step, Width};
 
-/// How many bytes a width has.
-pub fn bytes_in(width: Width) -> u64
-    ensures { result ≡ byte_count width }
-{
-    match width {
-        Width::One => 1,
-        Width::Two => 2,
-        Width::Four => 4,
-        Width::Eight => 8,
-    }
-}
-
 /// The length of a known-length section: none, or at least the three bytes of the shortest line.
 pub fn length_set(most: u64) -> Allowed
     ensures { result ≡ lines_set most }

@@ -2,12 +2,12 @@
 ghost use Rattle.std.specs.Prelude.{◌≡◌, ℕ, ◌<◌, ◌↔◌, List, ◌++◌, ◌∷◌, [], IsTrue};
 ghost use Rattle.std.specs.Char.{to_ascii_lowercase};
 ghost use Rattle.bh_spec.specs.Bytes.{lower};
-ghost use Rattle.bh_model.specs.Rules.{IsControlName};
+ghost use Rattle.bh_spec.specs.Messages.{IsControlName};
 ghost use Rattle.bh_fields.specs.Names.{NameTakes, IsValueByte, flag_behind};
 ghost use Rattle.bh_fields.specs.Sets.{free_room};
 ghost use Rattle.bh_fields.specs.Points.{Point, point_of, IsSized, IsFull, LengthState, NextState, LineState, NamedState, NameState, ValueLengthState, InValue, ValueState, ReadingAt, Moves, IsStep};
 
-use crate::sets::{Read, bytes_in, judge, length_set, name_set, value_set};
+use crate::sets::{Read, judge, length_set, name_set, value_set};
 use crate::walk::{Judged, Phase, Walk};
 use bh_model::Form;
 use bh_varint::GREATEST;
@@ -138,7 +138,7 @@ impl Walk {
             }
             Read::Value { value, width } => {
                 self.kept.push_reserved(byte);
-                self.begin_name(value, bytes_in(width))
+                self.begin_name(value, width.bytes() as u64)
             }
             Read::Limit => Judged::Limit,
             Read::Dead => Judged::Dead,
@@ -203,7 +203,7 @@ impl Walk {
             }
             Read::Value { value, width } => {
                 self.kept.push_reserved(byte);
-                self.used += bytes_in(width) + value;
+                self.used += width.bytes() as u64 + value;
                 self.begin_value(value)
             }
             Read::Limit => Judged::Limit,

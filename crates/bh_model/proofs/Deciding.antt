@@ -5,11 +5,11 @@ use Rattle.std.proofs.Math.Logic.{∥∥₁_elim}
 use Rattle.std.proofs.lemmas.Bool.{false≢true}
 use Rattle.std.proofs.lemmas.List.Elements.{All-nil, All-cons, All-head, All-tail}
 use Rattle.bh_spec.specs.Bytes.{AreBytes, is_letter, is_token, is_scheme, is_authority, is_path, is_value, is_blank, lower}
-use Rattle.bh_spec.specs.Messages.{Field, Control, IsToken, IsPseudo, IsValue, IsScheme, IsValid, Message, IsWeb, IsWebPath}
+use Rattle.bh_spec.specs.Messages.{Field, Control, IsToken, IsControlName, IsPseudo, IsValue, IsScheme, IsValid, Message, IsWeb, IsWebPath}
 use Rattle.bh_model.specs.declared.field.Place.TheVariants.{Header, Trailer}
 use Rattle.bh_model.specs.declared.messages.Start as begun
 use Rattle.bh_model.specs.Lines.{FieldsView}
-use Rattle.bh_model.specs.Rules.{Rule, IsControlName, method_rule, scheme_rule, authority_rule, path_rule, status_rule, name_rule, value_rule, ended_rule, IsKept, AreKept, IsPath}
+use Rattle.bh_model.specs.Rules.{Rule, method_rule, scheme_rule, authority_rule, path_rule, status_rule, name_rule, value_rule, ended_rule, IsKept, AreKept, IsPath}
 use Rattle.bh_model.specs.Held.{message_of, IsMessage}
 use Rattle.bh_model.proofs.MessageLemmas.{rules_of, message_from_kept, kept_from_message}
 
@@ -89,26 +89,12 @@ control_name name =
     (either (name ≡ codes ":authority") _ (same_bytes name (codes ":authority"))
     (either (name ≡ codes ":path") (name ≡ codes ":status") (same_bytes name (codes ":path")) (same_bytes name (codes ":status")))))
 
-pub none_of_control : (name : List ℕ) → IsPseudo name → IsControlName name → ⊥
-none_of_control name p (inl e) = p.method e
-none_of_control name p (inr (inl e)) = p.scheme e
-none_of_control name p (inr (inr (inl e))) = p.authority e
-none_of_control name p (inr (inr (inr (inl e)))) = p.path e
-none_of_control name p (inr (inr (inr (inr e)))) = p.status e
-
 pseudo : (name : List ℕ) → Decided (IsPseudo name)
 pseudo [] = inr (λ p. let e = p.colon.1 in cc)
 pseudo (x ∷ rest) =
     by ((x ≡ 58) × (IsToken rest × ¬ IsControlName (x ∷ rest))) (IsPseudo (x ∷ rest))
-    (λ h. record {
-      colon = (rest, ap (λ y. y ∷ rest) h.0, h.1.0);
-      method = λ e. h.1.1 (inl e);
-      scheme = λ e. h.1.1 (inr (inl e));
-      authority = λ e. h.1.1 (inr (inr (inl e)));
-      path = λ e. h.1.1 (inr (inr (inr (inl e))));
-      status = λ e. h.1.1 (inr (inr (inr (inr e))));
-    })
-    (λ p. let e = p.colon.1 in let behind : p.colon.0 ≡ rest = cc in (cc, (subst IsToken behind p.colon.2, none_of_control (x ∷ rest) p)))
+    (λ h. record { colon = (rest, ap (λ y. y ∷ rest) h.0, h.1.0); other = h.1.1 })
+    (λ p. let e = p.colon.1 in let behind : p.colon.0 ≡ rest = cc in (cc, (subst IsToken behind p.colon.2, p.other)))
     (both (x ≡ 58) (IsToken rest × ¬ IsControlName (x ∷ rest)) (same x 58)
     (both (IsToken rest) (¬ IsControlName (x ∷ rest)) (token rest) (if_then (IsControlName (x ∷ rest)) ⊥ (control_name (x ∷ rest)) (inr (λ b. b)))))
 

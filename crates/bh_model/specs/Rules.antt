@@ -32,10 +32,6 @@ part_of (name_rule place before name) = Name
 part_of (value_rule value) = Value
 part_of (ended_rule making) = Name
 
--- one of the five names of control data (RFC 9292, section 3.6)
-abbrev pub IsControlName : List ℕ → Type 0
-IsControlName name = (name ≡ codes ":method") ⊎ ((name ≡ codes ":scheme") ⊎ ((name ≡ codes ":authority") ⊎ ((name ≡ codes ":path") ⊎ (name ≡ codes ":status"))))
-
 pub record IsPath (c : Control) : Type 0 where
   pub each : All (λ byte. IsTrue (is_path byte)) c.path
   pub web : IsWebPath c c.path

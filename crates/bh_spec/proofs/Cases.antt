@@ -1,5 +1,5 @@
 -- The worked cases hold.
-use Rattle.std.proofs.Common.{◌<◌, ◌≤◌, ◌^◌, Option, Some, arith, ℕ, List, [], ◌∷◌, ◌++◌, length, IsTrue, codes, refl, inl}
+use Rattle.std.proofs.Common.{◌<◌, ◌≤◌, ◌^◌, Option, Some, arith, ℕ, List, [], ◌∷◌, ◌++◌, length, IsTrue, codes, refl, inl, inr}
 use Rattle.std.proofs.lemmas.List.Elements.{All-nil, All-cons, All-from_recursion}
 use Rattle.bh_spec.specs.declared.Part.{Part}
 use Rattle.bh_spec.specs.declared.Part.TheVariants as parts
@@ -9,7 +9,7 @@ use Rattle.bh_spec.specs.declared.Width.TheVariants.{One, Two, Four}
 use Rattle.bh_spec.specs.Integers.{vi}
 use Rattle.bh_spec.specs.Bounds.{Bounds, default_bounds}
 use Rattle.bh_spec.specs.Bytes.{is_token, is_scheme, is_authority, is_path}
-use Rattle.bh_spec.specs.Messages.{Field, IsToken, IsScheme, IsControl, IsRegularField, IsPseudoField, AreHeaders, IsInterim, IsValid}
+use Rattle.bh_spec.specs.Messages.{Field, IsToken, IsScheme, IsControl, IsRegularField, IsControlName, IsPseudoField, AreHeaders, IsInterim, IsValid}
 use Rattle.bh_spec.specs.Texts.{Text, mark, IsNumber, IsString}
 use Rattle.bh_spec.specs.Sections.{IsLinesWithin, IsSection}
 use Rattle.bh_spec.specs.Tails.{IsBody}
@@ -253,15 +253,18 @@ interim_response = (
   refl,
 )
 
+no_control_name : IsControlName (codes ":b") → ⊥
+no_control_name (inl e) = cc
+no_control_name (inr (inl e)) = cc
+no_control_name (inr (inr (inl e))) = cc
+no_control_name (inr (inr (inr (inl e)))) = cc
+no_control_name (inr (inr (inr (inr e)))) = cc
+
 b_valid : IsPseudoField field_b
 b_valid = record {
   name = record {
     colon = (codes "b", refl, record { nonempty = omega arith; each = All-from_recursion (λ byte. IsTrue (is_token byte)) (codes "b") (refl, tt) });
-    method = λ e. cc;
-    scheme = λ e. cc;
-    authority = λ e. cc;
-    path = λ e. cc;
-    status = λ e. cc;
+    other = no_control_name;
   };
   lower_case = refl;
   value = record { each = All-nil _; first = refl; last = refl };

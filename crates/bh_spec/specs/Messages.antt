@@ -37,14 +37,14 @@ pub record IsToken (bytes : List ℕ) : Type 0 where
   pub nonempty : 0 < length bytes
   pub each : All (λ byte. IsTrue (is_token byte)) bytes
 
--- a colon and a token, but none of the five names of control data
+-- one of the five names of control data (RFC 9292, section 3.6)
+abbrev pub IsControlName : List ℕ → Type 0
+IsControlName name = (name ≡ codes ":method") ⊎ ((name ≡ codes ":scheme") ⊎ ((name ≡ codes ":authority") ⊎ ((name ≡ codes ":path") ⊎ (name ≡ codes ":status"))))
+
+-- a colon and a token, but no name of control data
 pub record IsPseudo (name : List ℕ) : Type 0 where
   pub colon : (rest : List ℕ) × (name ≡ 58 ∷ rest) × IsToken rest
-  pub method : name ≡ codes ":method" → ⊥
-  pub scheme : name ≡ codes ":scheme" → ⊥
-  pub authority : name ≡ codes ":authority" → ⊥
-  pub path : name ≡ codes ":path" → ⊥
-  pub status : name ≡ codes ":status" → ⊥
+  pub other : IsControlName name → ⊥
 
 -- value bytes, with no blank at either end (past its end an empty value reads as 0, which is none)
 pub record IsValue (value : List ℕ) : Type 0 where

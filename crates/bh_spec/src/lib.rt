@@ -3,10 +3,11 @@
 //! The definitions stand in `specs/`: `Integers`, `Bounds`, `Bytes`, `Messages`, `Texts`, `Sections`, `Tails`, `Spelling`,
 //! `Viable`, `Answers`, `Canonical`, `Reports` and `Parts`, which docs/FORMAT.md says in words; `Alive` says which bytes may
 //! come next, `Laws` has the laws, and `Cases` the worked cases. The types here are those that the definitions speak of.
-//! Each function but `Part::number` is empty: its contract is a law about the definitions, or a worked case.
+//! Each function but `Width::bytes` and `Part::number` is empty: its contract is a law about the definitions, or a worked case.
 #![tactic(auto)]
 
 ghost use Rattle.std.specs.Prelude.{◌≡◌};
+ghost use Rattle.bh_spec.specs.Integers.{byte_count};
 ghost use Rattle.bh_spec.specs.Parts.{number_of};
 ghost use Rattle.bh_spec.specs.Laws.{OneReading, OneNext, SomeNext, CanonIsSpelled, KnownIsSpelled, FitsWhereSpelled, WithoutLimits, CanonOnce};
 ghost use Rattle.bh_spec.specs.Alive.{AliveByInterval, FramingAlive, LineStep};
@@ -19,6 +20,20 @@ pub enum Width {
     Two,
     Four,
     Eight,
+}
+
+impl Width {
+    /// How many bytes an integer of this width has.
+    pub fn bytes(self) -> usize
+        ensures { result ≡ byte_count self }
+    {
+        match self {
+            Width::One => 1,
+            Width::Two => 2,
+            Width::Four => 4,
+            Width::Eight => 8,
+        }
+    }
 }
 
 /// The part of a message that a byte belongs to. `SectionLength` serves interim, header and trailer sections; the number

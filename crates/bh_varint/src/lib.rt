@@ -80,18 +80,6 @@ fn shown_width(byte: u8) -> Width
     }
 }
 
-/// How many bytes a width has.
-fn bytes_in(width: Width) -> usize
-    ensures { result ≡ byte_count width }
-{
-    match width {
-        Width::One => 1,
-        Width::Two => 2,
-        Width::Four => 4,
-        Width::Eight => 8,
-    }
-}
-
 /// Whether a number from `low` to `high`, in so many bytes, leaves what it may.
 fn leaves(rest: Option<Rest>, bytes: u64, low: u64, high: u64) -> bool
     ensures { IsTrue result ↔ Left rest bytes low high }
@@ -143,7 +131,7 @@ impl Begun {
         ensures low { result.0 ≡ first_open self.now }
         ensures high { result.1 ≡ last_open self.now }
     {
-        let missing = bytes_in(self.width) - self.count;
+        let missing = self.width.bytes() - self.count;
         let numbers = 1 << (8 * missing);
         let low = self.value * numbers;
         (low, low + (numbers - 1))
@@ -156,7 +144,7 @@ impl Begun {
             ↔ IsAlive set.now (byte_count self.now.width) (first_open self.now) (last_open self.now) }
     {
         let (low, high) = self.range();
-        allows(set, bytes_in(self.width) as u64, low, high)
+        allows(set, self.width.bytes() as u64, low, high)
     }
 }
 
@@ -251,7 +239,7 @@ impl Partial {
             self.begun = None;
             return Step::Dead;
         }
-        if begun.count == bytes_in(begun.width) {
+        if begun.count == begun.width.bytes() {
             self.begun = None;
             return Step::Value {
                 value: begun.value,

@@ -21,22 +21,22 @@ numbers b bytes h e = shifted (bytes - b.count) (omega (arith, h.some, e, most b
 pub overflow_mul-low : goal.overflow_mul-low
 overflow_mul-low c =
     let b = c.args.self.now in
-    let n = numbers b c.bytes_in.result c.requires c.bytes_in.ensures in
+    let n = numbers b c.bytes.result c.requires c.bytes.ensures in
     omega (arith, n, ap (λ (i : ℕ). b.value * i) n, open_below b c.requires)
 
 pub overflow_add-result : goal.overflow_add-result
 overflow_add-result c =
     let b = c.args.self.now in
-    let n = numbers b c.bytes_in.result c.requires c.bytes_in.ensures in
+    let n = numbers b c.bytes.result c.requires c.bytes.ensures in
     omega (arith, n, ap (λ (i : ℕ). b.value * i) n, open_below b c.requires)
 
 pub returns-clause-low : goal.returns-clause-low
 returns-clause-low c =
     let b = c.args.self.now in
-    ap (λ (i : ℕ). b.value * i) (numbers b c.bytes_in.result c.requires c.bytes_in.ensures)
+    ap (λ (i : ℕ). b.value * i) (numbers b c.bytes.result c.requires c.bytes.ensures)
 
 pub returns-clause-high : goal.returns-clause-high
 returns-clause-high c =
     let b = c.args.self.now in
-    let n = numbers b c.bytes_in.result c.requires c.bytes_in.ensures in
+    let n = numbers b c.bytes.result c.requires c.bytes.ensures in
     omega (arith, n, ap (λ (i : ℕ). b.value * i) n, some_256 (byte_count b.width - b.count))

@@ -23,8 +23,8 @@ returns-then-not-is_alive c =
     }
 
 -- all the bytes of the width
-pub returns-then-begun-bytes_in : goal.returns-then-begun-bytes_in
-returns-then-begun-bytes_in c =
+pub returns-then-begun-bytes : goal.returns-then-begun-bytes
+returns-then-begun-bytes c =
     let bytes : List ℕ = c.args.self.now ++ c.args.byte ∷ [] in
     let b = c.with-begun.result in
     let reads = c.with-begun.ensures.reads in

@@ -62,7 +62,7 @@ returns-in-Dead c =
     (λ s. c.in-Dead.ensures.judges.1 (subst (λ (x : Allowed). SomeBegins x bytes) (sym free) s)))
 
 pub begin_name-requires-clause-width : goal.begin_name-requires-clause-width
-begin_name-requires-clause-width c = omega (arith, c.bytes_in.ensures, count_1 c.in-Value.width)
+begin_name-requires-clause-width c = omega (arith, c.bytes.ensures, count_1 c.in-Value.width)
 
 pub begin_name-requires-clause-state : goal.begin_name-requires-clause-state
 begin_name-requires-clause-state c =
@@ -70,7 +70,7 @@ begin_name-requires-clause-state c =
     let set : c.name_set-within.result ≡ names_set p.form (part_of p.limits) (Some (p.total - p.used)) =
     c.name_set-within.ensures ∙ ap (λ (x : ℕ). names_set p.form x (Some (p.total - p.used))) (part_is p.limits c.part.result c.part.ensures.value) in
     let k = c.push_reserved-in-Value.new.self in
-    subst (λ (w : ℕ). NamedState (with_number c.judge.new.number k.items (vec_capacity k) p) c.in-Value.value w) (sym c.bytes_in.ensures)
+    subst (λ (w : ℕ). NamedState (with_number c.judge.new.number k.items (vec_capacity k) p) c.in-Value.value w) (sym c.bytes.ensures)
     (subst (λ (x : List ℕ). NamedState (with_number x k.items (vec_capacity k) p) c.in-Value.value (byte_count c.in-Value.width)) (sym c.in-Value.ensures.kept)
     (line_whole p c.args.byte c.in-Value.value c.in-Value.width k.items (vec_capacity k) c.requires.sized c.requires.state
     (subst (λ (s : Allowed). IsWhole s (p.number ++ c.args.byte ∷ []) c.in-Value.value c.in-Value.width) set c.in-Value.ensures.judges)

@@ -67,7 +67,7 @@ begin_value-requires-clause-state c =
     c.value_set-within.ensures ∙ ap (λ (x : ℕ). values_set p.form x (Some (p.total - p.used))) (part_is p.limits c.part.result c.part.ensures.value) in
     let k = c.push_reserved-in-Value.new.self in
     let n = c.in-Value.value in
-    subst (λ (w : ℕ). InValue (of_value (p.used + (w + n)) (with_number c.judge.new.number k.items (vec_capacity k) p)) [] n) (sym c.bytes_in.ensures)
+    subst (λ (w : ℕ). InValue (of_value (p.used + (w + n)) (with_number c.judge.new.number k.items (vec_capacity k) p)) [] n) (sym c.bytes.ensures)
     (subst (λ (x : List ℕ). InValue (of_value (p.used + (byte_count c.in-Value.width + n)) (with_number x k.items (vec_capacity k) p)) [] n) (sym c.in-Value.ensures.kept)
     (value_length_whole p c.args.byte n c.in-Value.width k.items (vec_capacity k) c.requires.sized c.requires.state
     (subst (λ (s : Allowed). IsWhole s (p.number ++ c.args.byte ∷ []) n c.in-Value.width) set c.in-Value.ensures.judges)
@@ -77,6 +77,6 @@ pub returns-in-Value : goal.returns-in-Value
 returns-in-Value c =
     let p : Point = point_of c.args.self.now in
     let k = c.push_reserved-in-Value.new.self in
-    moved c.begin_value.result p (of_value (p.used + (c.bytes_in.result + c.in-Value.value)) (with_number c.judge.new.number k.items (vec_capacity k) p)) c.args.byte
+    moved c.begin_value.result p (of_value (p.used + (c.bytes.result + c.in-Value.value)) (with_number c.judge.new.number k.items (vec_capacity k) p)) c.args.byte
     c.begin_value.new.self.phase (point_of c.begin_value.new.self)
     (record { limits = refl; form = refl; place = refl }) c.push_reserved-in-Value.ensures.items c.begin_value.ensures
