@@ -1,7 +1,10 @@
 //! The streams of the process as a port and a sink. They tell nothing of content, and count each error of the system as a
-//! fault: a failed read or write, a write that takes nothing of a piece that isn't empty, and a failed flush.
-ghost use Rattle.std.specs.Prelude.{◌≡◌, ◌≤◌, ◌<◌, false, length, IfOk, None, refl};
-ghost use Rattle.bh_base.specs.Steps.{ReadFacts, WriteFacts, is_empty};
+//! fault: a failed read or write, a write that takes nothing of a piece that isn't empty, and a failed flush. Of a reader or
+//! a writer that tells its own content, a read takes the next bytes and gives all of them, and a write that doesn't fail
+//! sends just those that it counts.
+ghost use Rattle.std.specs.Prelude.{◌≡◌, ◌≤◌, ◌<◌, ◌⊎◌, true, false, length, take, IfOk, OnOk, None, refl};
+ghost use Rattle.std.specs.Io.KnownBytes.{Consumes, Appends};
+ghost use Rattle.bh_base.specs.Steps.{ReadFacts, WriteFacts, is_empty, meets_end};
 
 use bh_base::{Failed, Port, Sink, Source};
 use std::io::{Read, Write};
@@ -40,7 +43,10 @@ impl<R: Read, W: Write> Source for StdPort<R, W> {
     ghost ended = { λ p. p.ended };
 
     ghost read_step = { λ s idle r bytes t.
-        ReadFacts (λ p. None) (λ p. p.read_faults) (λ p. p.ended) s idle r bytes t × (t.write_faults ≡ s.write_faults) };
+        ReadFacts (λ p. None) (λ p. p.read_faults) (λ p. p.ended) s idle r bytes t × (t.write_faults ≡ s.write_faults)
+        × Consumes (R.remaining s.input) (R.remaining t.input) bytes
+        × (t.ended ≡ true → (s.ended ≡ true) ⊎ (meets_end idle r ≡ true)) × (s.ended ≡ true → t.input ≡ s.input)
+        × (t.output ≡ s.output) };
 
     ghost read_law = { λ s t idle r bytes h. h.0 };
 
@@ -71,7 +77,8 @@ impl<R: Read, W: Write> Sink for StdPort<R, W> {
     ghost write_faults = { λ p. p.write_faults };
 
     ghost write_step = { λ s idle r bytes t.
-        WriteFacts (λ p. None) (λ p. p.write_faults) s idle r bytes t × (t.read_faults ≡ s.read_faults) × (t.ended ≡ s.ended) };
+        WriteFacts (λ p. None) (λ p. p.write_faults) s idle r bytes t × (t.read_faults ≡ s.read_faults) × (t.ended ≡ s.ended)
+        × OnOk r (Appends (W.contents s.output) (W.contents t.output) bytes) × (t.input ≡ s.input) };
 
     ghost write_law = { λ s t idle r bytes h. h.0 };
 
@@ -96,7 +103,8 @@ impl<R: Read, W: Write> Port for StdPort<R, W> {
 
 /// A write and a flush.
 fn send<W: Write>(output: &mut W, piece: &[u8]) -> Result<usize, Failed>
-    ensures { IfOk result (λ n. (n ≤ length piece.now) × (is_empty piece.now ≡ false → 0 < n)) }
+    ensures count { IfOk result (λ n. (n ≤ length piece.now) × (is_empty piece.now ≡ false → 0 < n)) }
+    ensures bytes { IfOk result (λ n. Appends (W.contents output.old) (W.contents output.new) (take n piece.now)) }
 {
     let count = output.write(piece).map_err(|_| Failed)?;
     if count == 0 && !piece.is_empty() {
@@ -127,9 +135,11 @@ impl<W: Write> Sink for ErrSink<W> {
 
     ghost write_faults = { λ p. p.faults };
 
-    ghost write_step = { λ s idle r bytes t. WriteFacts (λ p. None) (λ p. p.faults) s idle r bytes t };
+    ghost write_step = { λ s idle r bytes t.
+        WriteFacts (λ p. None) (λ p. p.faults) s idle r bytes t
+        × OnOk r (Appends (W.contents s.output) (W.contents t.output) bytes) };
 
-    ghost write_law = { λ s t idle r bytes h. h };
+    ghost write_law = { λ s t idle r bytes h. h.0 };
 
     fn write(&mut self, piece: &[u8]) -> Result<usize, Failed> {
         match send(&mut self.output, piece) {
