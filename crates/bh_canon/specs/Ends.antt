@@ -77,11 +77,11 @@ Completes L end input reads_before reads_now writes_before writes_now = (answer 
 abbrev pub IsTold : Bounds → {S : Type 0} → (S → Option (List ℕ)) → (S → Option (List ℕ)) → S → CanonEnd → S → Type 0
 IsTold L left sent s end t = IfSome (left s) (λ input. Told L end input (left t) (sent s) (sent t))
 
--- Such a port's input says how the call ended.
+-- Of such a port: the call ended with the answer for its input.
 abbrev pub IsComplete : Bounds → {S : Type 0} → (S → Option (List ℕ)) → (S → ℕ) → (S → ℕ) → S → CanonEnd → S → Type 0
 IsComplete L left read_faults write_faults s end t = IfSome (left s) (λ input. Completes L end input (read_faults s) (read_faults t) (write_faults s) (write_faults t))
 
--- All of that, for limits in their ranges, and the counts of faults: a fault is the end only where its count rose in this call, and else the count stayed.
+-- The chain, what a port tells, limits in their ranges, and the counts of faults; that the call is complete follows. A fault is the end only where its count rose in this call, and else the count stayed.
 pub record CanonFacts (L : Bounds) {S : Type 0} (reads writes : S → Bool → Result ℕ Failed → List ℕ → S → Type 0) (left sent : S → Option (List ℕ)) (read_faults write_faults : S → ℕ)
     (s : S) (end : CanonEnd) (t : S) : Type 0 where
   pub limits : AreLimits L

@@ -7,7 +7,7 @@ use Rattle.bh_spec.specs.declared.Width.{Width}
 use Rattle.bh_spec.specs.Integers.{vi, limit_of, Begins}
 use Rattle.bh_spec.specs.Bounds.{Bounds, IsWithin}
 use Rattle.bh_spec.specs.Bytes.{is_letter, is_token, is_scheme, is_authority, is_path, lower}
-use Rattle.bh_spec.specs.Messages.{Control, IsControl, IsToken, IsScheme, IsWeb, IsWebPath}
+use Rattle.bh_spec.specs.Messages.{IsPath, Control, IsControl, IsToken, IsScheme, IsWeb, IsWebPath}
 use Rattle.bh_spec.specs.Texts.{Text, mark}
 use Rattle.bh_varint.specs.Step.{IsUnfinished}
 use Rattle.bh_control.specs.declared.strings.Place.{Place}
@@ -140,11 +140,6 @@ Rest K r c t = RestAt K r.phase r c t
 
 -- ---- what was read keeps the rules
 
--- a path of the web begins with a slash, or is the star of OPTIONS
-pub record IsPathOf (c : Control) (path : List ℕ) : Type 0 where
-  pub each : All (λ byte. IsTrue (is_path byte)) path
-  pub web : IsWebPath c path
-
 abbrev pub AreAuthority : List ℕ → Type 0
 AreAuthority bytes = All (λ byte. IsTrue (is_authority byte)) bytes
 
@@ -153,7 +148,7 @@ abbrev pub IsValidAt : Place → Control → List ℕ → Type 0
 IsValidAt Method d string = IsToken string
 IsValidAt Scheme d string = IsScheme string
 IsValidAt Authority d string = AreAuthority string
-IsValidAt Path d string = IsPathOf d string
+IsValidAt Path d string = IsPath d string
 
 -- the strings before the place keep theirs
 abbrev pub AreDone : Place → Control → Type 0

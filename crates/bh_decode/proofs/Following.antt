@@ -21,11 +21,16 @@ use Rattle.bh_decode.proofs.Rests.{some_padding}
 use Rattle.bh_model.specs.declared.field.Place.TheVariants.{Header, Trailer}
 use Rattle.bh_model.specs.declared.field.Place.{Place}
 use Rattle.bh_fields.specs.Sections.{SectionOf}
+use Rattle.bh_spec.specs.Pieces.{IsText}
 
 -- ---- within the limits, and so without
 
 pub sections_anyway : (L : Bounds) (form : Form) (place : Place) (fields : List Field) (t : Text) → SectionOf L form place fields t → SectionOf no_bounds form place fields t
 sections_anyway L form place fields t h = (section_anyway L form fields t h.0, h.1)
+
+pub section_text_anyway : (L : Bounds) (form : Form) (place : Place) (fields : List Field) (bytes : List ℕ) → IsText (SectionOf L form place fields) bytes
+    → IsText (SectionOf no_bounds form place fields) bytes
+section_text_anyway L form place fields bytes h = record { text = h.text; spelled = sections_anyway L form place fields h.text h.spelled; same = h.same }
 
 pub control_anyway : (L : Bounds) (c : Control) (t : Text) → ControlOf L c t → ControlOf no_bounds c t
 control_anyway L c t h = record {
@@ -54,8 +59,7 @@ least_is_valid = record {
     lower_case = refl;
   };
   authority = All-nil _;
-  path = All-nil _;
-  web = λ w. not_web w;
+  path = record { each = All-nil _; web = λ w. not_web w };
 }
   where
     not_web : IsWebPath least_control least_control.path

@@ -14,7 +14,7 @@ use Rattle.bh_decode.specs.Grammar.{IsRestText, IsAfterStart, RestOf, AfterOf}
 use Rattle.bh_decode.specs.Stops.{Stops, StopsThing, stop_behind, fault_behind, AtStop}
 use Rattle.bh_decode.proofs.Grammars.{section_once}
 use Rattle.bh_decode.proofs.Phases.{stops_then, behind_headers}
-use Rattle.bh_decode.proofs.Following.{sections_anyway, after_headers}
+use Rattle.bh_decode.proofs.Following.{sections_anyway, section_text_anyway, after_headers}
 use Rattle.bh_decode.proofs.Tails.{stops_there, both_texts}
 
 pub headers_stop : (L : Bounds) (form : Form) (bytes : List ℕ) (stop : Stop) → StopsThing (SomeOf (SectionOf L form Header)) (SomeOf (SectionOf no_bounds form Header)) bytes stop
@@ -23,14 +23,11 @@ headers_stop L form bytes stop h =
     stops_then (SectionOf L form Header) (λ (fields : List Field). IsRestText L form) (SectionOf no_bounds form Header) (λ (fields : List Field). IsRestText no_bounds form)
     (section_once L form Header) (section_once no_bounds form Header) (after_headers L form) (after_headers no_bounds form) (sections_anyway L form Header) bytes stop h
 
-headers_text_anyway : (L : Bounds) (form : Form) (fields : List Field) (bytes : List ℕ) → IsText (SectionOf L form Header fields) bytes → IsText (SectionOf no_bounds form Header fields) bytes
-headers_text_anyway L form fields bytes h = record { text = h.text; spelled = sections_anyway L form Header fields h.text h.spelled; same = h.same }
-
 rest_stop : (L : Bounds) (form : Form) (fields : List Field) (bytes : List ℕ) (taken : ℕ) (stop : Stop) → Ends (SectionOf L form Header fields) [] bytes taken
     → Stops (IsRestText L form) (IsRestText no_bounds form) (drop taken bytes) stop → Stops (IsAfterStart L form) (IsAfterStart no_bounds form) bytes (stop_behind taken stop)
 rest_stop L form fields bytes taken stop section h =
     stops_there (IsAfterStart L form) (IsRestText L form) (IsAfterStart no_bounds form) (IsRestText no_bounds form) bytes taken 0 0 stop section.within
-    (behind_headers L form fields (take taken bytes) section.whole) (behind_headers no_bounds form fields (take taken bytes) (headers_text_anyway L form fields (take taken bytes) section.whole)) (omega arith) h
+    (behind_headers L form fields (take taken bytes) section.whole) (behind_headers no_bounds form fields (take taken bytes) (section_text_anyway L form Header fields (take taken bytes) section.whole)) (omega arith) h
 
 pub rest_fault : (L : Bounds) (form : Form) (fields : List Field) (bytes : List ℕ) (taken : ℕ) (fault : Fault) → Ends (SectionOf L form Header fields) [] bytes taken
     → AtStop (Stops (IsRestText L form) (IsRestText no_bounds form) (drop taken bytes)) fault → AtStop (Stops (IsAfterStart L form) (IsAfterStart no_bounds form) bytes) (fault_behind taken fault)

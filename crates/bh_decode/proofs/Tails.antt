@@ -25,7 +25,7 @@ use Rattle.bh_decode.proofs.Fronts.{length_front}
 use Rattle.bh_decode.proofs.Phases.{stops_then}
 use Rattle.bh_decode.proofs.Stopped.{stops_behind}
 use Rattle.bh_decode.proofs.Rests.{IsBodyRest, body_once, rest_here, behind_body, behind_content, behind_trailers}
-use Rattle.bh_decode.proofs.Following.{sections_anyway, after_body, after_trailers}
+use Rattle.bh_decode.proofs.Following.{sections_anyway, section_text_anyway, after_body, after_trailers}
 use Rattle.bh_decode.proofs.Grammars.{section_once}
 
 -- ---- a stop behind what was read
@@ -50,14 +50,11 @@ trailers_stop L form bytes stop h =
     stops_then (SectionOf L form Trailer) (λ (fields : List Field). IsPaddingText) (SectionOf no_bounds form Trailer) (λ (fields : List Field). IsPaddingText)
     (section_once L form Trailer) (section_once no_bounds form Trailer) (after_trailers L form) (after_trailers no_bounds form) (sections_anyway L form Trailer) bytes stop h
 
-anyway_text : (L : Bounds) (form : Form) (fields : List Field) (bytes : List ℕ) → IsText (SectionOf L form Trailer fields) bytes → IsText (SectionOf no_bounds form Trailer fields) bytes
-anyway_text L form fields bytes h = record { text = h.text; spelled = sections_anyway L form Trailer fields h.text h.spelled; same = h.same }
-
 pub padding_stop : (L : Bounds) (form : Form) (fields : List Field) (bytes : List ℕ) (taken : ℕ) (stop : Stop) → Ends (SectionOf L form Trailer fields) [] bytes taken
     → Stops IsPaddingText IsPaddingText (drop taken bytes) stop → Stops (IsEndText L form) (IsEndText no_bounds form) bytes (stop_behind taken stop)
 padding_stop L form fields bytes taken stop section h =
     stops_there (IsEndText L form) IsPaddingText (IsEndText no_bounds form) IsPaddingText bytes taken 0 0 stop section.within
-    (behind_trailers L form fields (take taken bytes) section.whole) (behind_trailers no_bounds form fields (take taken bytes) (anyway_text L form fields (take taken bytes) section.whole)) (omega arith) h
+    (behind_trailers L form fields (take taken bytes) section.whole) (behind_trailers no_bounds form fields (take taken bytes) (section_text_anyway L form Trailer fields (take taken bytes) section.whole)) (omega arith) h
 
 -- two texts, one behind the other
 pub both_texts : (R S : Text → Type 0) (bytes : List ℕ) (taken : ℕ) → Ends R [] bytes taken → IsText S (drop taken bytes) → IsText (R then S) bytes

@@ -34,8 +34,7 @@ get_valid = record {
   method = method_valid;
   scheme = scheme_valid;
   authority = All-nil (λ byte. IsTrue (is_authority byte));
-  path = All-from_recursion (λ byte. IsTrue (is_path byte)) (codes "/") (refl, tt);
-  web = λ web. inl ([], refl);
+  path = record { each = All-from_recursion (λ byte. IsTrue (is_path byte)) (codes "/") (refl, tt); web = λ web. inl ([], refl) };
 }
 
 a_valid : IsRegularField field_a
@@ -318,8 +317,7 @@ post_valid = record {
   method = record { nonempty = omega arith; each = All-from_recursion (λ byte. IsTrue (is_token byte)) (codes "POST") (refl, (refl, (refl, (refl, tt)))) };
   scheme = scheme_valid;
   authority = All-nil (λ byte. IsTrue (is_authority byte));
-  path = All-from_recursion (λ byte. IsTrue (is_path byte)) (codes "/") (refl, tt);
-  web = λ web. inl ([], refl);
+  path = record { each = All-from_recursion (λ byte. IsTrue (is_path byte)) (codes "/") (refl, tt); web = λ web. inl ([], refl) };
 }
 
 abbrev post_text : Text

@@ -83,12 +83,15 @@ IsWeb scheme = (scheme ≡ codes "http") ⊎ (scheme ≡ codes "https")
 abbrev pub IsWebPath : Control → List ℕ → Type 0
 IsWebPath c path = IsWeb c.scheme → ((rest : List ℕ) × (path ≡ 47 ∷ rest)) ⊎ ((c.method ≡ codes "OPTIONS") × (path ≡ codes "*"))
 
+pub record IsPath (c : Control) (path : List ℕ) : Type 0 where
+  pub each : All (λ byte. IsTrue (is_path byte)) path
+  pub web : IsWebPath c path
+
 pub record IsControl (c : Control) : Type 0 where
   pub method : IsToken c.method
   pub scheme : IsScheme c.scheme
   pub authority : All (λ byte. IsTrue (is_authority byte)) c.authority
-  pub path : All (λ byte. IsTrue (is_path byte)) c.path
-  pub web : IsWebPath c c.path
+  pub path : IsPath c c.path
 
 pub record IsInterim (interim : Interim) : Type 0 where
   pub low : 100 ≤ interim.status

@@ -38,7 +38,8 @@ pub record GoesOn (R : Text → Type 0) (bytes piece : List ℕ) : Type 0 where
   pub begins : CanBecome R (bytes ++ piece)
   pub unfinished : (taken : ℕ) → Ends R bytes piece taken → ⊥
 
--- the byte of the piece with this number is the first that no text within the limits has there
+-- the byte of the piece with this number is the first that no text within the limits has there, and texts that go on before it
+-- have a byte of the part there
 pub record IsRefused (R : Text → Type 0) (bytes piece : List ℕ) (offset : ℕ) (part : Part) : Type 0 where
   pub inside : offset < length piece
   pub next : IsNext R (bytes ++ take offset piece) part

@@ -2,7 +2,7 @@
 //!
 //! The definitions stand in `specs/`: `Integers`, `Bounds`, `Bytes`, `Messages`, `Texts`, `Sections`, `Tails`, `Spelling`,
 //! `Viable`, `Answers`, `Canonical`, `Reports` and `Parts`, which docs/FORMAT.md says in words; `Alive` says which bytes may
-//! come next, `Laws` has the laws, and `Cases` the worked cases. The types here are those that the definitions speak of.
+//! come next, `Pieces` what a reader of bytes in pieces answers, `Laws` has the laws, and `Cases` the worked cases. The types here are those that the definitions speak of.
 //! Each function but `Width::bytes` and `Part::number` is empty: its contract is a law about the definitions, or a worked case.
 #![tactic(auto)]
 

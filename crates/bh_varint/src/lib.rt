@@ -15,7 +15,7 @@ ghost use Rattle.bh_varint.specs.Step.{IsWhole, IsUnfinished, GoesOn, Shows, byt
 pub use bh_spec::{Allowed, Rest, Span, Width};
 use std::marker::Model;
 
-/// The greatest integer, 2^62 - 1.
+/// The greatest integer, 2^62 - 1 (RFC 9000, section 16).
 pub const GREATEST: u64 = (1 << 62) - 1;
 
 /// The least width that can hold `n`, which is at most `GREATEST`.

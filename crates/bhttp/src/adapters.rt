@@ -3,7 +3,7 @@
 //! a writer that tells its own content, a read takes the next bytes and gives all of them, and a write that doesn't fail
 //! sends just those that it counts.
 ghost use Rattle.std.specs.Prelude.{◌≡◌, ◌≤◌, ◌<◌, ◌⊎◌, true, false, length, take, IfOk, OnOk, None, refl};
-ghost use Rattle.std.specs.Io.KnownBytes.{Consumes, Appends};
+ghost use Rattle.std.specs.Io.KnownBytes.{Consumes, Appends, IsAtEnd};
 ghost use Rattle.bh_base.specs.Steps.{ReadFacts, WriteFacts, is_empty, meets_end};
 
 use bh_base::{Failed, Port, Sink, Source};
@@ -46,6 +46,7 @@ impl<R: Read, W: Write> Source for StdPort<R, W> {
         ReadFacts (λ p. None) (λ p. p.read_faults) (λ p. p.ended) s idle r bytes t × (t.write_faults ≡ s.write_faults)
         × Consumes (R.remaining s.input) (R.remaining t.input) bytes
         × (t.ended ≡ true → (s.ended ≡ true) ⊎ (meets_end idle r ≡ true)) × (s.ended ≡ true → t.input ≡ s.input)
+        × (meets_end idle r ≡ true → s.ended ≡ false → IsAtEnd (R.remaining t.input))
         × (t.output ≡ s.output) };
 
     ghost read_law = { λ s t idle r bytes h. h.0 };
