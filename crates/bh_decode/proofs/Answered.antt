@@ -14,7 +14,7 @@ use Rattle.bh_decode.specs.Laws.{OneAnswer, FirstRefusedByte}
 use Rattle.bh_decode.proofs.Prefixes.{viable_less, viable_take}
 
 spelled_viable : (L : Bounds) (m : Message) (o : Omitted) (z : ℕ) (bytes : List ℕ) → SpellsBytes L m o z bytes → IsViable L bytes
-spelled_viable L m o z bytes h = record { text = h.0; after = []; spelled = (m, o, z, h.1); begins = h.2 ∙ sym (append-nil bytes) }
+spelled_viable L m o z bytes h = record { text = h.text; after = []; spelled = (m, o, z, h.spelled); begins = h.same ∙ sym (append-nil bytes) }
 
 -- an input is one piece, with nothing before it
 as_piece : (L : Bounds) (bytes : List ℕ) (at : ℕ) (part : Part) → IsRefusedAt L bytes at part → IsRefused (IsMessageText L) [] bytes at part

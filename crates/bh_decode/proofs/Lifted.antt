@@ -15,7 +15,7 @@ use Rattle.bh_spec.proofs.Pieces.{next_becomes}
 use Rattle.bh_decode.proofs.Contexts.{Context}
 
 pub of_spelled : (L : Bounds) (m : Message) (o : Omitted) (z : ℕ) (bytes : List ℕ) → SpellsBytes L m o z bytes → IsText (IsMessageText L) bytes
-of_spelled L m o z bytes h = record { text = h.0; spelled = (m, o, z, h.1); same = h.2 }
+of_spelled L m o z bytes h = record { text = h.text; spelled = (m, o, z, h.spelled); same = h.same }
 
 -- the first bytes, up to one of the piece
 pub front : (done piece : List ℕ) (k : ℕ) → take (length done + k) (done ++ piece) ≡ done ++ take k piece

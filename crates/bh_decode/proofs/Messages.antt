@@ -114,12 +114,13 @@ pub message_whole : (L : Bounds) (kind : Kind) (form : Form) (m : Message) (omit
     → IsText (FramedOf L kind form m omitted padding) (drop taken bytes) → SpellsBytes L m omitted padding bytes
 message_whole L kind form m omitted padding bytes taken framed rest =
     let h = both_texts (IsFramed (kind, form)) (FramedOf L kind form m omitted padding) bytes taken framed rest in
-    let f = h.spelled.3 in (
-      h.text,
-      record {
+    let f = h.spelled.3 in
+    record {
+      text = h.text;
+      spelled = record {
         valid = f.valid;
         form = form;
         text = (h.spelled.0, h.spelled.1, subst (λ (k : Kind). IsNumber parts.Framing (framing k form) h.spelled.0) (sym f.kind_is) h.spelled.2, f.spelled, h.spelled.4);
-      },
-      h.same,
-    )
+      };
+      same = h.same;
+    }

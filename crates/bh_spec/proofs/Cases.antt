@@ -127,14 +127,14 @@ pub get_spelled : Spells default_bounds (get []) Both 0 get_text
 get_spelled = under_input (Some (2 ^ 24))
 
 pub tail_left_out : TailLeftOut
-tail_left_out = ((omega arith, (get_text, get_spelled, refl)), refl)
+tail_left_out = ((omega arith, record { text = get_text; spelled = get_spelled; same = refl }), refl)
 
 pub padding_counted : PaddingCounted
 padding_counted = (
   omega arith,
-  (
-    _,
-    record {
+  record {
+    text = _;
+    spelled = record {
       valid = valid [] no_headers;
       form = Known;
       text = (
@@ -156,24 +156,24 @@ padding_counted = (
         ),
         refl,
       );
-    },
-    refl,
-  ),
+    };
+    same = refl;
+  },
 )
 
 pub upper_case_name : UpperCaseName
 upper_case_name = (
   (
     omega arith,
-    (
-      _,
-      record {
+    record {
+      text = _;
+      spelled = record {
         valid = valid (field_a ∷ []) one_header;
         form = Known;
         text = (_, _, one parts.Framing 0 (omega arith), (request_text, _, request_spelled, (_, [], a_section, (refl, refl, refl, refl), refl), refl), refl);
-      },
-      refl,
-    ),
+      };
+      same = refl;
+    },
   ),
   refl,
   refl,
@@ -183,9 +183,9 @@ pub framing_in_four_bytes : FramingInFourBytes
 framing_in_four_bytes = (
   (
     omega arith,
-    (
-      _,
-      record {
+    record {
+      text = _;
+      spelled = record {
         valid = record { start = record { each = All-nil IsInterim; low = omega arith; high = omega arith }; fields = no_headers; content = All-nil _; trailers = All-nil IsRegularField };
         form = Known;
         text = (
@@ -195,9 +195,9 @@ framing_in_four_bytes = (
           (_, _, (omega arith, ([], _, refl, record { width = Two; fits = omega arith; spelled = refl }, refl)), (_, [], empty_section, (refl, refl, refl, refl), refl), refl),
           refl,
         );
-      },
-      refl,
-    ),
+      };
+      same = refl;
+    },
   ),
   refl,
 )
@@ -209,9 +209,9 @@ pub interim_response : InterimResponse
 interim_response = (
   (
     omega arith,
-    (
-      _,
-      record {
+    record {
+      text = _;
+      spelled = record {
         valid = record {
           start = record {
             each = All-cons IsInterim _ [] (record { low = omega arith; high = omega arith; fields = no_headers }) (All-nil IsInterim);
@@ -245,9 +245,9 @@ interim_response = (
           ),
           refl,
         );
-      },
-      refl,
-    ),
+      };
+      same = refl;
+    },
   ),
   refl,
 )
@@ -290,15 +290,15 @@ pub pseudo_field : PseudoField
 pseudo_field = (
   (
     omega arith,
-    (
-      _,
-      record {
+    record {
+      text = _;
+      spelled = record {
         valid = valid (field_b ∷ []) b_header;
         form = Known;
         text = (_, _, one parts.Framing 0 (omega arith), (request_text, _, request_spelled, (_, [], b_section, (refl, refl, refl, refl), refl), refl), refl);
-      },
-      refl,
-    ),
+      };
+      same = refl;
+    },
   ),
   refl,
 )
@@ -366,9 +366,9 @@ pub trailers_left_out : TrailersLeftOut
 trailers_left_out = (
   (
     omega arith,
-    (
-      _,
-      record {
+    record {
+      text = _;
+      spelled = record {
         valid = record {
           start = post_valid;
           fields = no_headers;
@@ -377,9 +377,9 @@ trailers_left_out = (
         };
         form = Indeterminate;
         text = (_, _, one parts.Framing 2 (omega arith), (post_text, _, post_spelled, (_, _, no_lines_ended, (refl, refl, one_chunk), refl), refl), refl);
-      },
-      refl,
-    ),
+      };
+      same = refl;
+    },
   ),
   refl,
 )

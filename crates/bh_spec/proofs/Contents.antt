@@ -36,7 +36,7 @@ tail_long L form c fs Both z t h = omega (arith, ap length h.0)
 
 pub content_long : (L : Bounds) (m : Message) (o : Omitted) (z : ℕ) (bytes : List ℕ) → SpellsBytes L m o z bytes → length m.content ≤ length bytes
 content_long L m o z bytes h =
-    let spelled = h.1 in
+    let spelled = h.spelled in
     let a = spelled.text in
     let b = a.3 in
     let c = b.3 in
@@ -49,6 +49,6 @@ content_long L m o z bytes h =
       length-append b.0 b.1,
       ap length a.4,
       length-append a.0 a.1,
-      ap length h.2,
-      length-map h.0 (λ (byte : Part × ℕ). byte.1),
+      ap length h.same,
+      length-map h.text (λ (byte : Part × ℕ). byte.1),
     )

@@ -51,18 +51,18 @@ no_bytes (a ∷ t) e h = cc
 
 unfinished : (m : Message) (o : Omitted) (z : ℕ) → SpellsBytes default_bounds m o z cut → ⊥
 unfinished m o z h =
-    let u = h.1.text in
-    let k = framing (kind_of m.start) h.1.form in
+    let u = h.spelled.text in
+    let k = framing (kind_of m.start) h.spelled.form in
     let first = mark parts.Framing (0x00 ∷ []) in
-    let a = meets_front (0 ≡ k) first u.0 get_bytes (bytes_of u.1) (number_meets parts.Framing 0 k first u.0 (one parts.Framing 0 (omega arith)) u.2) (sym h.2 ∙ split h.0 u.0 u.1 u.4) in
-    let same = framing_is Request (kind_of m.start) Known h.1.form a.0 in
+    let a = meets_front (0 ≡ k) first u.0 get_bytes (bytes_of u.1) (number_meets parts.Framing 0 k first u.0 (one parts.Framing 0 (omega arith)) u.2) (sym h.same ∙ split h.text u.0 u.1 u.4) in
+    let same = framing_is Request (kind_of m.start) Known h.spelled.form a.0 in
     let s = u.3 in
     let start = subst (λ (f : Form). IsStartText default_bounds f m.start s.0) (sym same.1) s.2 in
     let b = meets_front ((get []).start ≡ m.start) request_text s.0 [] (bytes_of s.1)
-    (start_agrees default_bounds default_bounds Known (get []).start m.start same.0 (valid [] no_headers).start h.1.valid.start request_text s.0 request_spelled start)
+    (start_agrees default_bounds default_bounds Known (get []).start m.start same.0 (valid [] no_headers).start h.spelled.valid.start request_text s.0 request_spelled start)
     (a.2 ∙ split u.1 s.0 s.1 s.4) in
     no_bytes s.1 b.2
-    (then_nonempty (IsSection default_bounds h.1.form m.fields) (IsTail default_bounds h.1.form m.content m.trailers o z) s.1 (section_nonempty default_bounds h.1.form m.fields) s.3)
+    (then_nonempty (IsSection default_bounds h.spelled.form m.fields) (IsTail default_bounds h.spelled.form m.content m.trailers o z) s.1 (section_nonempty default_bounds h.spelled.form m.fields) s.3)
 
 pub header_section_missing : HeaderSectionMissing
 header_section_missing = record { long = refl; seen = omega arith; viable = viable; unfinished = unfinished; next = next }

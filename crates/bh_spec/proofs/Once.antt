@@ -22,4 +22,4 @@ pub canon_once : CanonOnce
 canon_once m n v a w b e =
     let x = canonical no_bounds m v a (no_limit m) in
     let y = canonical no_bounds n w b (no_limit n) in
-    (one_reading no_bounds no_bounds m n Nothing Nothing 0 0 (canon n) (x.0, x.1, x.2 ∙ e) y).0
+    (one_reading no_bounds no_bounds m n Nothing Nothing 0 0 (canon n) (record { text = x.text; spelled = x.spelled; same = x.same ∙ e }) y).0

@@ -239,7 +239,7 @@ message_meets K L m n o p y z t u a b =
 
 pub one_reading : OneReading
 one_reading K L m n o p y z bytes a b =
-    meets_one (Unit {0}) (Same m n o p y z) a.0 b.0 (message_meets K L m n o p y z a.0 b.0 a.1 b.1) (a.2 ∙ sym b.2)
+    meets_one (Unit {0}) (Same m n o p y z) a.text b.text (message_meets K L m n o p y z a.text b.text a.spelled b.spelled) (a.same ∙ sym b.same)
 
 pub one_next : OneNext
 one_next K L bytes p q a b =

@@ -216,7 +216,7 @@ is_spelled L form m v small fits =
     let a = has_int parts.Framing (framing k form) (small_framing k form) in
     let all = has_then (IsNumber parts.Framing (framing k form)) (IsStartText L form m.start then IsSection L form m.fields then IsTail L form m.content m.trailers Nothing 0)
     (int (framing k form)) (start form m.start ++ (section form m.fields ++ (body form m.content ++ section form m.trailers))) a (has_after L form m v small fits) in
-    (all.0, record { valid = v; form = form; text = all.1 }, all.2)
+    record { text = all.0; spelled = record { valid = v; form = form; text = all.1 }; same = all.2 }
 
 pub canonical : CanonIsSpelled
 canonical L m v small fits = is_spelled L Indeterminate m v small fits

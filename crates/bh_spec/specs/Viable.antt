@@ -1,16 +1,16 @@
 -- Bytes that spell a message, and prefixes that some message continues.
-use Rattle.std.specs.Prelude.{ℕ, ◌≡◌, List}
+use Rattle.std.specs.Prelude.{ℕ, List}
 use Rattle.bh_spec.specs.Bounds.{Bounds}
 use Rattle.bh_spec.specs.Messages.{Message}
-use Rattle.bh_spec.specs.Texts.{Text, bytes_of}
-use Rattle.bh_spec.specs.Pieces.{CanBecome, IsNext}
+use Rattle.bh_spec.specs.Texts.{Text}
+use Rattle.bh_spec.specs.Pieces.{IsText, CanBecome, IsNext}
 use Rattle.bh_spec.specs.Spelling.{Spells}
 use Rattle.bh_spec.specs.declared.Part.{Part}
 use Rattle.bh_spec.specs.declared.Omitted.{Omitted}
 
 -- The bytes spell the message, with this omission and padding.
 abbrev pub SpellsBytes : Bounds → Message → Omitted → ℕ → List ℕ → Type 0
-SpellsBytes L m omitted padding bytes = (t : Text) × Spells L m omitted padding t × (bytes_of t ≡ bytes)
+SpellsBytes L m omitted padding = IsText (Spells L m omitted padding)
 
 -- t is a text of some message within the limits.
 abbrev pub IsMessageText : Bounds → Text → Type 0
