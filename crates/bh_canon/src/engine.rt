@@ -24,7 +24,7 @@ pub enum CanonEnd {
     Refused(Refusal),
     /// A read failed; nothing was written.
     ReadFault,
-    /// A write failed; the first bytes of the canonical text were written.
+    /// A write failed; none, some or all of the canonical text was written, from its front.
     WriteFault,
     /// Memory ran out; nothing was written.
     NoMemory,
