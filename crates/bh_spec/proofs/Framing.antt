@@ -29,7 +29,7 @@ use Rattle.bh_spec.proofs.Marks.{marked_bytes}
 use Rattle.bh_spec.proofs.Within.{zero_within, within_less, no_headers}
 use Rattle.bh_spec.proofs.Prefixes.{front_width, alive_by_interval}
 use Rattle.bh_spec.proofs.Cases.{valid, get_text, get_spelled}
-use Rattle.bh_spec.proofs.Written.{has_after}
+use Rattle.bh_spec.proofs.Written.{BodyFits, has_after}
 
 -- ---- a number at the front of a text
 
@@ -93,12 +93,16 @@ record SomeOf (L : Bounds) (kind : Kind) (form : Form) : Type 0 where
   text : Text
   after : After L form message text
 
+no_body : (form : Form) → BodyFits form []
+no_body Known = omega arith
+no_body Indeterminate = tt
+
 some : (L : Bounds) (kind : Kind) (form : Form) → IsWithin L.part 5 → SomeOf L kind form
 some L Request form h =
-    let t = has_after L form (get []) (valid [] no_headers) (record { fits = get_fits integers (omega arith); content = omega arith }) (get_fits L h) in
+    let t = has_after L form (get []) (valid [] no_headers) (get_fits integers (omega arith)) (no_body form) (get_fits L h) in
     record { message = get []; is_kind = refl; valid = valid [] no_headers; text = t.0; after = t.1 }
 some L Response form h =
-    let t = has_after L form ok ok_valid (record { fits = ok_fits integers; content = omega arith }) (ok_fits L) in
+    let t = has_after L form ok ok_valid (ok_fits integers) (no_body form) (ok_fits L) in
     record { message = ok; is_kind = refl; valid = ok_valid; text = t.0; after = t.1 }
 
 -- ---- the framing number

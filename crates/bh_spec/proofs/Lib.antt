@@ -19,3 +19,11 @@ pub mod Framing
 pub mod Steps
 pub mod Limits
 pub mod Once
+pub mod Residuals
+pub mod Yields
+pub mod Readings
+pub mod Readers
+pub mod Runs
+pub mod Viable
+pub mod Answers
+pub mod Existing

@@ -1,8 +1,8 @@
 -- Texts and their bytes.
-use Rattle.std.proofs.Common.{◌≡◌, ℕ, List, [], ◌∷◌, ◌++◌, length, refl, ap, ap₂, ◌∙◌, append_assoc}
+use Rattle.std.proofs.Common.{◌≡◌, ℕ, List, [], ◌∷◌, ◌++◌, length, refl, ap, ap₂, ◌∙◌, append_assoc, ◌+◌, arith}
 use Rattle.std.proofs.lemmas.List.{length-map, map-append}
 use Rattle.bh_spec.specs.declared.Part.{Part}
-use Rattle.bh_spec.specs.Texts.{Text, mark, bytes_of}
+use Rattle.bh_spec.specs.Texts.{Text, mark, bytes_of, content_in}
 
 pub bytes_of-append : (x y : Text) → bytes_of (x ++ y) ≡ bytes_of x ++ bytes_of y
 bytes_of-append x y = map-append (λ (b : Part × ℕ). b.1) x y
@@ -55,3 +55,7 @@ cut (a ∷ t) (b ∷ x) y ys e =
     let head : a.1 ≡ b = cc in
     let tail : bytes_of t ≡ x ++ (y ∷ ys) = cc in
     cut_later a t b x y ys head (cut t x y ys tail)
+
+pub content-append : (t u : Text) → content_in (t ++ u) ≡ content_in t + content_in u
+content-append [] u = omega arith
+content-append (x ∷ t) u = omega (arith, content-append t u)

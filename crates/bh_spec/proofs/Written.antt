@@ -18,7 +18,7 @@ use Rattle.bh_spec.specs.Sections.{IsLine, IsLinesWithin, IsSection}
 use Rattle.bh_spec.specs.Tails.{IsBody, IsTail}
 use Rattle.bh_spec.specs.Spelling.{IsRequest, IsInterimText, IsStartText, framing}
 use Rattle.bh_spec.specs.Viable.{SpellsBytes}
-use Rattle.bh_spec.specs.Canonical.{string, line, lines, section, cut, cut_within, body, interim, start, spelling, FieldsFit, ControlFits, StartFits, Fits, greatest, integers, IsWritable}
+use Rattle.bh_spec.specs.Canonical.{string, line, lines, section, cut, cut_within, body, interim, start, spelling, FieldsFit, ControlFits, StartFits, Fits, greatest, integers}
 use Rattle.bh_spec.specs.Laws.{CanonIsSpelled, KnownIsSpelled}
 use Rattle.bh_spec.specs.declared.Kind.{Kind}
 use Rattle.bh_spec.specs.declared.Kind.TheVariants.{Request, Response}
@@ -90,25 +90,30 @@ has_section L Indeterminate fs w long fits =
 
 -- ---- bodies
 
-abbrev IsPiece : List ℕ → Type 0
+abbrev pub IsPiece : List ℕ → Type 0
 IsPiece x = (0 < length x) × (length x ≤ 8192)
 
 piece : (b : ℕ) (xs : List ℕ) → IsPiece (take 8192 (b ∷ xs))
 piece b xs = (omega (arith, length-take 8192 (b ∷ xs)), omega (arith, length-take 8192 (b ∷ xs)))
 
-cut_pieces : (k : ℕ) (xs : List ℕ) → All IsPiece (cut_within k 8192 xs)
+pub cut_pieces : (k : ℕ) (xs : List ℕ) → All IsPiece (cut_within k 8192 xs)
 cut_pieces zero xs = All-nil IsPiece
 cut_pieces (suc k) [] = All-nil IsPiece
 cut_pieces (suc k) (b ∷ xs) = All-cons IsPiece (take 8192 (b ∷ xs)) (cut_within k 8192 (drop 8192 (b ∷ xs))) (piece b xs) (cut_pieces k (drop 8192 (b ∷ xs)))
 
-cut_whole : (k : ℕ) (xs : List ℕ) → length xs ≤ k → concat (cut_within k 8192 xs) ≡ xs
+pub cut_whole : (k : ℕ) (xs : List ℕ) → length xs ≤ k → concat (cut_within k 8192 xs) ≡ xs
 cut_whole zero [] h = refl
 cut_whole zero (b ∷ xs) h = absurd (omega arith)
 cut_whole (suc k) [] h = refl
 cut_whole (suc k) (b ∷ xs) h =
     ap (λ (y : List ℕ). take 8192 (b ∷ xs) ++ y) (cut_whole k (drop 8192 (b ∷ xs)) (omega (arith, length-drop 8192 (b ∷ xs)))) ∙ take-append-drop 8192 (b ∷ xs)
 
-has_body : (form : Form) (x : List ℕ) → length x ≤ greatest → Has (IsBody form x) (body form x)
+-- what a form asks of content: its length stands in one integer, or it is cut into chunks
+abbrev pub BodyFits : Form → List ℕ → Type 0
+BodyFits Known x = length x ≤ greatest
+BodyFits Indeterminate x = Unit {0}
+
+has_body : (form : Form) (x : List ℕ) → BodyFits form x → Has (IsBody form x) (body form x)
 has_body Known x h = has_string parts.ContentLength parts.Content x h
 has_body Indeterminate x h =
     let pieces = cut_pieces (length x) x in
@@ -193,14 +198,14 @@ small_framing Response Known = omega arith
 small_framing Response Indeterminate = omega arith
 
 -- what is written behind the framing number
-pub has_after : (L : Bounds) (form : Form) (m : Message) → IsValid m → IsWritable m → Fits L m
+pub has_after : (L : Bounds) (form : Form) (m : Message) → IsValid m → Fits integers m → BodyFits form m.content → Fits L m
     → Has (IsStartText L form m.start then IsSection L form m.fields then IsTail L form m.content m.trailers Nothing 0)
     (start form m.start ++ (section form m.fields ++ (body form m.content ++ section form m.trailers)))
-has_after L form m v small fits =
-    let b = has_start L form m.start v.start small.fits.start fits.start in
-    let c = has_written_section L form m.fields (headers_lower m.fields v.fields, (small.fits.fields, fits.fields)) in
-    let d = has_body form m.content small.content in
-    let e = has_written_section L form m.trailers (trailers_lower m.trailers v.trailers, (small.fits.trailers, fits.trailers)) in
+has_after L form m v small content fits =
+    let b = has_start L form m.start v.start small.start fits.start in
+    let c = has_written_section L form m.fields (headers_lower m.fields v.fields, (small.fields, fits.fields)) in
+    let d = has_body form m.content content in
+    let e = has_written_section L form m.trailers (trailers_lower m.trailers v.trailers, (small.trailers, fits.trailers)) in
     let f = has_then (IsSection L form m.trailers) (IsRun parts.Padding []) (section form m.trailers) [] e (has_run parts.Padding []) in
     let tail : Has (IsTail L form m.content m.trailers Nothing 0) (body form m.content ++ section form m.trailers) =
     has_then (IsBody form m.content) (IsSection L form m.trailers then IsRun parts.Padding []) (body form m.content) (section form m.trailers)
@@ -210,16 +215,16 @@ has_after L form m v small fits =
     (start form m.start) (section form m.fields ++ (body form m.content ++ section form m.trailers)) b cd
 
 -- what is written is spelled, in both forms
-is_spelled : (L : Bounds) (form : Form) (m : Message) → IsValid m → IsWritable m → Fits L m → SpellsBytes L m Nothing 0 (spelling form m)
-is_spelled L form m v small fits =
+is_spelled : (L : Bounds) (form : Form) (m : Message) → IsValid m → Fits integers m → BodyFits form m.content → Fits L m → SpellsBytes L m Nothing 0 (spelling form m)
+is_spelled L form m v small content fits =
     let k = kind_of m.start in
     let a = has_int parts.Framing (framing k form) (small_framing k form) in
     let all = has_then (IsNumber parts.Framing (framing k form)) (IsStartText L form m.start then IsSection L form m.fields then IsTail L form m.content m.trailers Nothing 0)
-    (int (framing k form)) (start form m.start ++ (section form m.fields ++ (body form m.content ++ section form m.trailers))) a (has_after L form m v small fits) in
+    (int (framing k form)) (start form m.start ++ (section form m.fields ++ (body form m.content ++ section form m.trailers))) a (has_after L form m v small content fits) in
     record { text = all.0; spelled = record { valid = v; form = form; text = all.1 }; same = all.2 }
 
 pub canonical : CanonIsSpelled
-canonical L m v small fits = is_spelled L Indeterminate m v small fits
+canonical L m v small fits = is_spelled L Indeterminate m v small tt fits
 
 pub known_length : KnownIsSpelled
-known_length L m v small fits = is_spelled L Known m v small fits
+known_length L m v small fits = is_spelled L Known m v small.fits small.content fits

@@ -22,7 +22,8 @@ abbrev pub FramingAlive : Type 0
 FramingAlive = (L : Bounds) (byte : ℕ) (rest : List ℕ) → IsWithin L.part 5 → length rest < byte_count (width_of byte)
     → IsViable L (byte ∷ rest) ↔ SomeBegins (record { zero = false; span = record { low = 0; high = 3 }; rest = None }) (byte ∷ rest)
 
--- In a known-length section, behind the lines of the fields done and with so many bytes left: the bytes are lines that make these fields of it.
+-- In a known-length section, behind the lines of the fields done and with so many bytes left: the bytes are lines that make
+-- these fields of it.
 pub record SectionRest (L : Bounds) (done : List Field) (left : ℕ) (fields : List Field) (bytes : List ℕ) : Type 0 where
   pub more : List Field
   pub text : Text

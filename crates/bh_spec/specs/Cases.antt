@@ -60,7 +60,8 @@ post = record {
 }
 
 abbrev pub post_bytes : List ℕ
-post_bytes = 0x02 ∷ 0x04 ∷ 0x50 ∷ 0x4f ∷ 0x53 ∷ 0x54 ∷ 0x05 ∷ 0x68 ∷ 0x74 ∷ 0x74 ∷ 0x70 ∷ 0x73 ∷ 0x00 ∷ 0x01 ∷ 0x2f ∷ 0x00 ∷ 0x03 ∷ 0x61 ∷ 0x62 ∷ 0x63 ∷ 0x00 ∷ []
+post_bytes = 0x02 ∷ 0x04 ∷ 0x50 ∷ 0x4f ∷ 0x53 ∷ 0x54 ∷ 0x05 ∷ 0x68 ∷ 0x74 ∷ 0x74 ∷ 0x70 ∷ 0x73 ∷ 0x00 ∷ 0x01 ∷ 0x2f ∷ 0x00 ∷ 0x03
+    ∷ 0x61 ∷ 0x62 ∷ 0x63 ∷ 0x00 ∷ []
 
 -- Chunked content, and the trailer section is left out.
 abbrev pub TrailersLeftOut : Type 0
@@ -85,7 +86,8 @@ PseudoField = IsAnswer default_bounds (0x00 ∷ (get_bytes ++ (0x04 ∷ 0x02 ∷
 
 -- One byte more than the limit of the input; what stands before it is a message.
 abbrev pub InputTooLong : Type 0
-InputTooLong = IsAnswer (record { part = Some 8192; section = Some 65536; interims = Some 16; input = Some 15 }) (0x00 ∷ (get_bytes ++ (0x00 ∷ 0x00 ∷ []))) (refused (TooLong 15))
+InputTooLong = IsAnswer (record { part = Some 8192; section = Some 65536; interims = Some 16; input = Some 15 })
+    (0x00 ∷ (get_bytes ++ (0x00 ∷ 0x00 ∷ []))) (refused (TooLong 15))
 
 -- The first byte shows a framing number of 256 or more.
 abbrev pub FramingTooGreat : Type 0

@@ -43,7 +43,8 @@ IsIn span x = (span.low ≤ x) × (x ≤ span.high)
 -- what a number of so many bytes leaves of a room
 abbrev pub Leaves : Option Rest → ℕ → ℕ → Type 0
 Leaves None bytes n = Unit {0}
-Leaves (Some rest) bytes n = (bytes + n ≤ rest.room) × ((IsTrue rest.zero × (rest.room - bytes - n ≡ 0)) ⊎ IsIn rest.span (rest.room - bytes - n))
+Leaves (Some rest) bytes n = (bytes + n ≤ rest.room)
+    × ((IsTrue rest.zero × (rest.room - bytes - n ≡ 0)) ⊎ IsIn rest.span (rest.room - bytes - n))
 
 -- the number n, in so many bytes, is allowed
 abbrev pub IsAllowed : Allowed → ℕ → ℕ → Type 0

@@ -8,7 +8,7 @@ use Rattle.bh_spec.specs.Messages.{Message, IsValid}
 use Rattle.bh_spec.specs.Texts.{Text}
 use Rattle.bh_spec.specs.Spelling.{Spells}
 use Rattle.bh_spec.specs.Viable.{SpellsBytes, IsViable, NextPart}
-use Rattle.bh_spec.specs.Canonical.{canon, known, Fits, IsWritable}
+use Rattle.bh_spec.specs.Canonical.{canon, known, Fits, integers, IsWritable}
 
 -- Bytes have one reading, whatever the limits.
 abbrev pub OneReading : Type 0
@@ -23,11 +23,12 @@ OneNext = (K L : Bounds) (bytes : List ℕ) (p q : Part) → NextPart K bytes p 
 abbrev pub SomeNext : Type 0
 SomeNext = (L : Bounds) (bytes : List ℕ) → IsViable L bytes → (part : Part) × NextPart L bytes part
 
--- What fits the limits has its canonical text within them, where each of its lengths can be written.
+-- What fits the limits has its canonical text within them, where integers can hold the lengths of its strings. Its content may be
+-- of any length, since it stands in chunks.
 abbrev pub CanonIsSpelled : Type 0
-CanonIsSpelled = (L : Bounds) (m : Message) → IsValid m → IsWritable m → Fits L m → SpellsBytes L m Nothing 0 (canon m)
+CanonIsSpelled = (L : Bounds) (m : Message) → IsValid m → Fits integers m → Fits L m → SpellsBytes L m Nothing 0 (canon m)
 
--- So has it the known-length text.
+-- So has it the known-length text, where integers can hold the length of its content too.
 abbrev pub KnownIsSpelled : Type 0
 KnownIsSpelled = (L : Bounds) (m : Message) → IsValid m → IsWritable m → Fits L m → SpellsBytes L m Nothing 0 (known m)
 
@@ -41,4 +42,4 @@ WithoutLimits = (L : Bounds) (m : Message) (o : Omitted) (z : ℕ) (t : Text) �
 
 -- Two messages have one canonical text only if they are one.
 abbrev pub CanonOnce : Type 0
-CanonOnce = (m n : Message) → IsValid m → IsWritable m → IsValid n → IsWritable n → canon m ≡ canon n → m ≡ n
+CanonOnce = (m n : Message) → IsValid m → Fits integers m → IsValid n → Fits integers n → canon m ≡ canon n → m ≡ n

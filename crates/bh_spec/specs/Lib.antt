@@ -1,6 +1,7 @@
 pub mod Integers
 pub mod Intervals
 pub mod Parts
+pub mod Printed
 pub mod Bounds
 pub mod Bytes
 pub mod Messages
@@ -16,3 +17,9 @@ pub mod Reports
 pub mod Laws
 pub mod Alive
 pub mod Cases
+pub mod Residuals
+pub mod Items
+pub mod Yields
+pub mod Readings
+pub mod Readers
+pub mod Runs

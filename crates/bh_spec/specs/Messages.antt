@@ -39,7 +39,8 @@ pub record IsToken (bytes : List ℕ) : Type 0 where
 
 -- one of the five names of control data (RFC 9292, section 3.6)
 abbrev pub IsControlName : List ℕ → Type 0
-IsControlName name = (name ≡ codes ":method") ⊎ ((name ≡ codes ":scheme") ⊎ ((name ≡ codes ":authority") ⊎ ((name ≡ codes ":path") ⊎ (name ≡ codes ":status"))))
+IsControlName name = (name ≡ codes ":method")
+    ⊎ ((name ≡ codes ":scheme") ⊎ ((name ≡ codes ":authority") ⊎ ((name ≡ codes ":path") ⊎ (name ≡ codes ":status"))))
 
 -- a colon and a token, but no name of control data
 pub record IsPseudo (name : List ℕ) : Type 0 where

@@ -20,6 +20,7 @@ IsBody Indeterminate content t = (chunks : List (List ℕ)) × (concat chunks �
 -- The content, the trailer section and zeros of padding; or an empty trailer section is left out, or empty content too.
 -- Nothing follows what is left out, so there the padding is 0.
 abbrev pub IsTail : Bounds → Form → List ℕ → List Field → Omitted → ℕ → Text → Type 0
-IsTail L form content trailers Nothing padding t = (IsBody form content then IsSection L form trailers then IsRun parts.Padding (replicate padding 0)) t
+IsTail L form content trailers Nothing padding t =
+    (IsBody form content then IsSection L form trailers then IsRun parts.Padding (replicate padding 0)) t
 IsTail L form content trailers Trailers padding t = (trailers ≡ []) × (padding ≡ 0) × IsBody form content t
 IsTail L form content trailers Both padding t = (content ≡ []) × (trailers ≡ []) × (padding ≡ 0) × (t ≡ [])

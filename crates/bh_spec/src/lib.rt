@@ -1,14 +1,17 @@
 //! The binary format in definitions, and its laws.
 //!
 //! The definitions stand in `specs/`: `Integers`, `Bounds`, `Bytes`, `Messages`, `Texts`, `Sections`, `Tails`, `Spelling`,
-//! `Viable`, `Answers`, `Canonical`, `Reports` and `Parts`, which docs/FORMAT.md says in words; `Alive` says which bytes may
-//! come next, `Pieces` what a reader of bytes in pieces answers, `Laws` has the laws, and `Cases` the worked cases. The types here are those that the definitions speak of.
-//! Each function but `Width::bytes` and `Part::number` is empty: its contract is a law about the definitions, or a worked case.
+//! `Viable`, `Answers`, `Canonical`, `Reports` and `Parts`, which docs/FORMAT.md says in words; `Printed` has the words of kinds,
+//! omissions, parts and causes; `Alive` says which bytes may come next, `Pieces` and `Readings` what a reader of bytes in pieces
+//! answers, `Residuals`, `Yields`, `Items`, `Readers` and `Runs` what may still follow bytes that were read; `Laws` has the laws,
+//! and `Cases` the worked cases. The types here are those that the definitions speak of. Each function but theirs (`bytes`,
+//! `number` and `text`) is empty: its contract is a law about the definitions, or a worked case.
 #![tactic(auto)]
 
-ghost use Rattle.std.specs.Prelude.{◌≡◌};
+ghost use Rattle.std.specs.Prelude.{◌≡◌, ◌≤◌, length};
 ghost use Rattle.bh_spec.specs.Integers.{byte_count};
 ghost use Rattle.bh_spec.specs.Parts.{number_of};
+ghost use Rattle.bh_spec.specs.Printed.{why_number, form_number, kind_text, omitted_text, part_text, why_text, form_text};
 ghost use Rattle.bh_spec.specs.Laws.{OneReading, OneNext, SomeNext, CanonIsSpelled, KnownIsSpelled, FitsWhereSpelled, WithoutLimits, CanonOnce};
 ghost use Rattle.bh_spec.specs.Alive.{AliveByInterval, FramingAlive, LineStep};
 ghost use Rattle.bh_spec.specs.Cases.{TailLeftOut, PaddingCounted, UpperCaseName, FramingInFourBytes, TrailersLeftOut, InterimResponse, PseudoField, InputTooLong, FramingTooGreat, HeaderSectionMissing, IntegerVectors, IntegerBoundaries};
@@ -68,6 +71,34 @@ impl Part {
     {
         *self as u8
     }
+
+    /// The word of the part, as `method-length`.
+    pub fn text(&self) -> &'static str
+        ensures text { result.now ≡ part_text self.now }
+        ensures few { length result.now ≤ 16 }
+    {
+        match self {
+            Part::Framing => "framing",
+            Part::MethodLength => "method-length",
+            Part::Method => "method",
+            Part::SchemeLength => "scheme-length",
+            Part::Scheme => "scheme",
+            Part::AuthorityLength => "authority-length",
+            Part::Authority => "authority",
+            Part::PathLength => "path-length",
+            Part::Path => "path",
+            Part::Status => "status",
+            Part::SectionLength => "section-length",
+            Part::NameLength => "name-length",
+            Part::Name => "name",
+            Part::ValueLength => "value-length",
+            Part::Value => "value",
+            Part::ContentLength => "content-length",
+            Part::ChunkLength => "chunk-length",
+            Part::Content => "content",
+            Part::Padding => "padding",
+        }
+    }
 }
 
 /// The numbers x where `low <= x <= high`. With `low > high` it holds none.
@@ -101,6 +132,19 @@ pub enum Kind {
     Response,
 }
 
+impl Kind {
+    /// The word of the kind: `request` or `response`.
+    pub fn text(&self) -> &'static str
+        ensures text { result.now ≡ kind_text self.now }
+        ensures few { length result.now ≤ 16 }
+    {
+        match self {
+            Kind::Request => "request",
+            Kind::Response => "response",
+        }
+    }
+}
+
 /// Whether sections and content say their length first (RFC 9292, section 3).
 #[derive(Clone, Copy, Debug, PartialEq, Eq)]
 pub enum Form {
@@ -116,6 +160,20 @@ pub enum Omitted {
     Both,
 }
 
+impl Omitted {
+    /// The word of what is left out: `none`, `trailers` or `both`.
+    pub fn text(&self) -> &'static str
+        ensures text { result.now ≡ omitted_text self.now }
+        ensures few { length result.now ≤ 16 }
+    {
+        match self {
+            Omitted::Nothing => "none",
+            Omitted::Trailers => "trailers",
+            Omitted::Both => "both",
+        }
+    }
+}
+
 /// Why an input is refused, and where: `at` bytes stand before the refused byte, and `part` is the part of that byte in
 /// every message that continues them.
 #[derive(Clone, Copy, Debug, PartialEq, Eq)]
@@ -128,6 +186,173 @@ pub enum Refusal {
     Ended { at: u64, part: Part },
     /// The input has more than `at` bytes, the limit of the input.
     TooLong { at: u64 },
+}
+
+/// Why an HTTP/1.1 message is refused.
+#[derive(Clone, Copy, Debug, PartialEq, Eq)]
+pub enum H1Why {
+    /// A head isn't of its form, or a later head of a response isn't a response's.
+    HeadForm = 1,
+    /// A head, its control data or its lines are longer than the limits allow.
+    HeadLimit,
+    /// The target has none of the three forms.
+    Target,
+    /// There isn't exactly one Host line; or the target isn't in absolute form, and the value has a byte that no authority
+    /// has.
+    Host,
+    /// The method is CONNECT.
+    Connect,
+    /// The status is 101.
+    Switching,
+    /// The transfer coding isn't `chunked` alone, or stands beside a length.
+    Coding,
+    /// The length is no number, or stands there more than once.
+    Length,
+    /// A chunk line isn't of its form.
+    ChunkLine,
+    /// A chunk line is too long.
+    ChunkLineLimit,
+    /// No line end follows a chunk.
+    ChunkEnd,
+    /// The trailer section isn't of its form.
+    TrailerForm,
+    /// The trailer section or its lines are longer than the limits allow.
+    TrailerLimit,
+    /// The input ends before the message does.
+    Ended,
+    /// A byte follows the message.
+    Extra,
+    /// The input is longer than its limit.
+    TooLong,
+    /// There are more interim responses than the limits allow.
+    Interims,
+}
+
+impl H1Why {
+    /// The number of the cause, from 1 for `HeadForm` to 17 for `Interims`.
+    pub fn number(&self) -> u8
+        ensures { result ≡ why_number self.now }
+    {
+        *self as u8
+    }
+
+    /// The word of the cause, as `head-form`.
+    pub fn text(&self) -> &'static str
+        ensures text { result.now ≡ why_text self.now }
+        ensures few { length result.now ≤ 16 }
+    {
+        match self {
+            H1Why::HeadForm => "head-form",
+            H1Why::HeadLimit => "head-limit",
+            H1Why::Target => "target",
+            H1Why::Host => "host",
+            H1Why::Connect => "connect",
+            H1Why::Switching => "switching",
+            H1Why::Coding => "coding",
+            H1Why::Length => "length",
+            H1Why::ChunkLine => "chunk-line",
+            H1Why::ChunkLineLimit => "chunk-line-limit",
+            H1Why::ChunkEnd => "chunk-end",
+            H1Why::TrailerForm => "trailer-form",
+            H1Why::TrailerLimit => "trailer-limit",
+            H1Why::Ended => "ended",
+            H1Why::Extra => "extra",
+            H1Why::TooLong => "too-long",
+            H1Why::Interims => "interims",
+        }
+    }
+}
+
+/// Why a message has no HTTP/1.1 form.
+#[derive(Clone, Copy, Debug, PartialEq, Eq)]
+pub enum NoForm {
+    /// There is a pseudo-field.
+    Pseudo,
+    /// A value has a control byte.
+    ValueByte,
+    /// The Host lines don't fit the authority.
+    Host,
+    /// The method is CONNECT.
+    Connect,
+    /// The scheme is neither `http` nor `https`.
+    Scheme,
+    /// The status is 101.
+    Switching,
+    /// A response without a body has content or a trailer line.
+    Bodyless,
+    /// The length is no number, or stands there more than once.
+    LengthField,
+    /// The content has another length than its field says. `content` is its length where that is smaller than `field`,
+    /// and `field + 1` where it is greater.
+    LengthDiffers { field: u64, content: u64 },
+    /// A body of counted length has a trailer line.
+    TrailersCounted,
+}
+
+impl NoForm {
+    /// The number of the cause, from 1 for `Pseudo` to 10 for `TrailersCounted`.
+    pub fn number(&self) -> u8
+        ensures { result ≡ form_number self.now }
+    {
+        match self {
+            NoForm::Pseudo => 1,
+            NoForm::ValueByte => 2,
+            NoForm::Host => 3,
+            NoForm::Connect => 4,
+            NoForm::Scheme => 5,
+            NoForm::Switching => 6,
+            NoForm::Bodyless => 7,
+            NoForm::LengthField => 8,
+            NoForm::LengthDiffers { .. } => 9,
+            NoForm::TrailersCounted => 10,
+        }
+    }
+
+    /// The word of the cause, as `value-byte`.
+    pub fn text(&self) -> &'static str
+        ensures text { result.now ≡ form_text self.now }
+        ensures few { length result.now ≤ 16 }
+    {
+        match self {
+            NoForm::Pseudo => "pseudo",
+            NoForm::ValueByte => "value-byte",
+            NoForm::Host => "host",
+            NoForm::Connect => "connect",
+            NoForm::Scheme => "scheme",
+            NoForm::Switching => "switching",
+            NoForm::Bodyless => "bodyless",
+            NoForm::LengthField => "length-field",
+            NoForm::LengthDiffers { .. } => "length-differs",
+            NoForm::TrailersCounted => "trailers-counted",
+        }
+    }
+}
+
+/// What a reader makes of a piece of bytes.
+#[derive(Clone, Copy, Debug, PartialEq, Eq)]
+pub enum PieceStep {
+    /// The whole piece was taken, and what is read goes on.
+    Need,
+    /// With so many bytes of the piece it is whole.
+    Whole { taken: usize },
+    /// Nothing goes on with the byte at this place of the piece, counted from 0, not even without limits. The byte's part is that of
+    /// the next byte in all that continues the bytes before it.
+    Dead { offset: usize, part: Part },
+    /// Only the limits forbid all that goes on with the byte.
+    Limit { offset: usize, part: Part },
+}
+
+/// What a byte makes of what is read.
+#[derive(Clone, Copy, Debug, PartialEq, Eq)]
+pub enum Judged {
+    /// It goes on.
+    More,
+    /// It is whole.
+    Whole,
+    /// Only the limits forbid all that begins so.
+    Limit,
+    /// Nothing begins so.
+    Dead,
 }
 
 /// What was read: the bytes of the input, the field lines with those of interim responses and of the trailer section,
@@ -157,14 +382,14 @@ pub fn some_next_part()
     ensures { SomeNext }
 {}
 
-/// What fits the limits has its canonical text within them, where the message is valid and each of its lengths can be
-/// written.
+/// What fits the limits has its canonical text within them, where the message is valid and integers can hold the lengths of its
+/// strings. Its content may be of any length.
 pub fn canon_is_spelled()
     ensures { CanonIsSpelled }
 {}
 
-/// What fits the limits has its known-length text within them, where the message is valid and each of its lengths can be
-/// written.
+/// What fits the limits has its known-length text within them, where the message is valid and integers can hold each of its
+/// lengths, that of the content too.
 pub fn known_is_spelled()
     ensures { KnownIsSpelled }
 {}
