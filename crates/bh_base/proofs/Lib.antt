@@ -1,7 +1,10 @@
 pub mod Calls
 pub mod Chains
 pub mod Fronts
+pub mod Batching
+pub mod Putting
 pub mod SinkCalls
 pub mod DoorCalls
 pub mod ShelfCalls
 pub mod SureCalls
+pub mod Ends
