@@ -1,5 +1,5 @@
 //! Field lines in reserved memory.
-ghost use Rattle.std.specs.Prelude.{◌≡◌, ◌≤◌, ◌<◌, ◌↔◌, ◌⊎◌, ◌+◌, ◌*◌, ◌/◌, ◌^◌, ◌++◌, ◌∷◌, [], ℕ, Some, None, IfOk, IsTrue, IsSomeAnd, IsNone, IfSome, option_map, option_to_list, length, take, slice_get, slice_range, vec_len, vec_capacity};
+ghost use Rattle.std.specs.Prelude.{◌≡◌, ◌≤◌, ◌<◌, ◌↔◌, ◌⊎◌, ◌+◌, ◌*◌, ◌/◌, ◌^◌, ◌++◌, ◌∷◌, [], ℕ, Some, None, IfOk, IsTrue, IsSome, IsSomeAnd, IsNone, IfSome, option_map, option_to_list, length, take, slice_get, slice_range, vec_len, vec_capacity};
 ghost use Rattle.bh_spec.specs.Bytes.{lower};
 ghost use Rattle.bh_spec.specs.Messages.{IsToken, IsPseudo};
 ghost use Rattle.bh_model.specs.Lines.{lines_room, making_room, making_count, name_grown, value_grown, end_of, begun_count};
@@ -211,6 +211,7 @@ impl Fields {
         requires { i < length self.now.lines }
         ensures line { slice_get self.now.lines i ≡ Some (record { name = result.0.now; value = result.1.now }) }
         ensures lower_case { lower result.0.now ≡ result.0.now }
+        ensures short { length result.0.now + length result.1.now ≤ 2 ^ 24 }
     {
         let start = start_of(&self.ends, i);
         let LineEnds { name, value } = self.ends[i];
@@ -219,6 +220,16 @@ impl Fields {
             part_of(&self.bytes, start, name_end),
             part_of(&self.bytes, name_end, value_end),
         )
+    }
+
+    /// The name so far of the line that is being made.
+    pub fn begun_name(&self) -> &[u8]
+        requires { IsSome self.now.making }
+        ensures { option_map (λ line. line.name) self.now.making ≡ Some result.now }
+    {
+        let start = start_of(&self.ends, self.ends.len());
+        let end = self.making.unwrap();
+        part_of(&self.bytes, start, end)
     }
 
     /// Whether no line is being made.
@@ -274,7 +285,7 @@ fn is_name(name: &[u8], may_be_pseudo: bool) -> bool
 
 /// Where the line of this number begins.
 fn start_of(ends: &[LineEnds], i: usize) -> usize
-    requires { i < length ends.now }
+    requires { i ≤ length ends.now }
     ensures { result ≡ end_of 0 (take i ends.now) }
 {
     if i == 0 {
