@@ -1,27 +1,27 @@
 -- The bytes since a reader began, and what completes them.
-use Rattle.std.proofs.Common.{◌≡◌, arith, ℕ, zero, suc, List, [], ◌∷◌, ◌++◌, length, refl, sym, ap, ap₂, subst, ◌∙◌, append_assoc, append-nil}
+use Rattle.std.proofs.Common.{◌≡◌, ◌↔◌, arith, ℕ, zero, suc, List, [], ◌∷◌, ◌++◌, length, refl, sym, ap, ap₂, subst, ◌∙◌, append_assoc, append-nil}
 use Rattle.std.proofs.lemmas.List.{length-map}
 use Rattle.bh_spec.specs.declared.Part.{Part}
 use Rattle.bh_spec.specs.declared.Part.TheVariants as parts
 use Rattle.bh_spec.specs.Integers.{vi}
 use Rattle.bh_spec.specs.Bounds.{Bounds, IsWithin}
-use Rattle.bh_spec.specs.Messages.{Control, IsControl}
+use Rattle.bh_spec.specs.Messages.{Control}
 use Rattle.bh_spec.specs.Spelling.{IsRequest}
 use Rattle.bh_spec.specs.Texts.{Text, mark, bytes_of, ◌then◌, IsString}
 use Rattle.bh_spec.proofs.Meeting.{meets_map, meets_one}
 use Rattle.bh_spec.proofs.Agreement.{Agree}
-use Rattle.bh_spec.proofs.Marks.{bytes_of-append, cut}
 use Rattle.bh_spec.proofs.Whole.{request_agrees}
 use Rattle.bh_control.specs.declared.strings.Place.{Place}
 use Rattle.bh_control.specs.declared.strings.Place.TheVariants.{Method, Scheme, Authority, Path}
 use Rattle.bh_control.specs.declared.progress.Phase.{Phase}
 use Rattle.bh_control.specs.declared.progress.Phase.TheVariants.{Idle, Length, Bytes, Whole, Refused}
-use Rattle.bh_spec.specs.Pieces.{IsText, CanBecome, IsNext}
+use Rattle.bh_spec.specs.Pieces.{SomeOf, CanBecome, IsNext}
 use Rattle.bh_control.specs.Control.{ControlOf, IsControlText}
 use Rattle.bh_control.specs.Phases.{Read, long_of, part_of, part_now, Holds, HasString, BehindPath, BehindAuthority, BehindScheme, BehindMethod, Rest, IsOpenAt, Steps, HasNone, HasSome}
 use Rattle.bh_control.specs.Stored.{no_strings}
 use Rattle.bh_control.specs.Reading.{IsReading}
-use Rattle.bh_control.specs.Sound.{Follows}
+use Rattle.bh_spec.specs.Residuals.{IsResidual}
+use Rattle.bh_spec.proofs.Residuals.{residual_same, residual_step}
 use Rattle.bh_control.specs.Laws.{OneControl, OneNextPart}
 use Rattle.bh_spec.proofs.Pieces.{one_next}
 use Rattle.bh_control.proofs.Steps.{read_at, part_length, part_byte}
@@ -96,15 +96,13 @@ request_from K c t r =
     (string_from K Authority c (BehindAuthority K c) c.authority a.0 a.1 s.1 a.2 a.4 r.authority_within refl
     (string_from K Path c BehindPath c.path a.1 [] a.1 a.3 (sym (append-nil a.1)) r.path_within refl refl)))
 
-no_front : (front : Text) → bytes_of front ≡ [] → front ≡ []
-no_front [] e = refl
-no_front (x ∷ front) e = absurd cc
+-- at the beginning control data is left
+pub start_is : (K : Bounds) (c : Control) (t : Text) → Rest K (read_at (Length Method) [] no_strings) c t ↔ ControlOf K c t
+start_is K c t = (λ h. record { valid = h.0; spelled = request_of K c t h.2 }, λ h. (h.valid, tt, request_from K c t h.spelled))
 
-pub follows_start : (K : Bounds) → Follows K (read_at (Length Method) [] no_strings) []
-follows_start K = record {
-  on = λ c t h. (h.0, record { front = []; bytes = refl; spelled = request_of K c t h.2 });
-  back = λ c t is f. (is, tt, request_from K c t (subst (λ (x : Text). IsRequest K c (x ++ t)) (no_front f.front f.bytes) f.spelled));
-}
+pub start_left : (K : Bounds) → IsResidual (ControlOf K) [] (λ c. c) (λ c t. Rest K (read_at (Length Method) [] no_strings) c t)
+start_left K =
+    residual_same (ControlOf K) (λ c. c) (λ c t. Rest K (read_at (Length Method) [] no_strings) c t) (λ c t h. (c, refl, (start_is K c t).1 h)) (λ c t h. (start_is K c t).0 h)
 
 -- no control data begins another
 pub controls_once : (K L : Bounds) → Agree ⊥ (Unit {0}) (IsControlText K) (IsControlText L)
@@ -122,66 +120,32 @@ one_part K most (Bytes place (suc left)) begun d byte reading o c part t h = par
 one_part K most Whole begun d byte reading o c part t h = absurd reading
 one_part K most Refused begun d byte reading o c part t h = absurd reading
 
--- the bytes of a text with one more
-snoc_bytes : (front : Text) (part : Part) (byte : ℕ) (kept : List ℕ) → bytes_of front ≡ kept → bytes_of (front ++ ((part, byte) ∷ [])) ≡ kept ++ byte ∷ []
-snoc_bytes front part byte kept e =
-    bytes_of-append front ((part, byte) ∷ []) ∙ ap (λ (x : List ℕ). x ++ byte ∷ []) e
+pub step_leaves : (K : Bounds) (r s : Read) (byte : ℕ) → ((c : Control) (part : Part) (t : Text) → Rest K r c ((part, byte) ∷ t) → part ≡ part_now r.phase)
+    → Steps K r byte s → IsResidual (Rest K r) (byte ∷ []) (λ c. c) (Rest K s)
+step_leaves K r s byte one steps =
+    residual_step (Rest K r) (part_now r.phase) byte (λ c. c) (Rest K s)
+    (record {
+      part_is = one;
+      forth = λ c t h. (c, refl, steps.on c t h);
+      back = λ c t h. steps.back c t h;
+    })
 
-pub follows_step : (K : Bounds) (r s : Read) (byte : ℕ) (kept : List ℕ) → ((c : Control) (part : Part) (t : Text) → Rest K r c ((part, byte) ∷ t) → part ≡ part_now r.phase)
-    → Steps K r byte s → Follows K r kept → Follows K s (kept ++ byte ∷ [])
-follows_step K r s byte kept one steps f = record {
-  on = λ c t h.
-      let g = f.on c ((part_now r.phase, byte) ∷ t) (steps.back c t h) in
-      let last : Text = (part_now r.phase, byte) ∷ [] in (
-        g.0,
-        record {
-          front = g.1.front ++ last;
-          bytes = snoc_bytes g.1.front (part_now r.phase) byte kept g.1.bytes;
-          spelled = subst (IsRequest K c) (sym (append_assoc g.1.front last t)) g.1.spelled;
-        },
-      );
-  back = λ c t is g.
-      let x = cut g.front kept byte [] g.bytes in
-      let whole : g.front ++ t ≡ x.before ++ ((x.part, byte) ∷ t) =
-      ap (λ (y : Text). y ++ t) x.same ∙ append_assoc x.before ((x.part, byte) ∷ x.after) t
-      ∙ ap (λ (y : Text). x.before ++ ((x.part, byte) ∷ (y ++ t))) (no_front x.after x.rest) in
-      let h = f.back c ((x.part, byte) ∷ t) is (record { front = x.before; bytes = x.begins; spelled = subst (IsRequest K c) whole g.spelled }) in
-      steps.on c t (subst (λ (p : Part). Rest K r c ((p, byte) ∷ t)) (one c x.part t h) h);
-}
+-- ---- what is said of the next byte
 
--- ---- what is said of the bytes
+pub none_goes : (K : Bounds) (r : Read) (byte : ℕ) → HasNone K r byte → CanBecome (SomeOf (Rest K r)) (byte ∷ []) → ⊥
+none_goes K r byte none h = at h.text h.spelled.1 h.begins
+  where
+    at : (t : Text) → Rest K r h.spelled.0 t → bytes_of t ≡ (byte ∷ []) ++ h.after → ⊥
+    at [] c e = absurd cc
+    at ((part, value) ∷ t) c e =
+        let same : value ≡ byte = cc in
+        none h.spelled.0 part t (subst (λ (v : ℕ). Rest K r h.spelled.0 ((part, v) ∷ t)) same c)
 
-pub none_becomes : (K : Bounds) (r : Read) (byte : ℕ) (kept : List ℕ) → Follows K r kept → HasNone K r byte → CanBecome (IsControlText K) (kept ++ byte ∷ []) → ⊥
-none_becomes K r byte kept f none h =
-    let c = h.spelled.0 in
-    let x = cut h.text kept byte h.after (h.begins ∙ append_assoc kept (byte ∷ []) h.after) in
-    none c x.part x.after (f.back c ((x.part, byte) ∷ x.after) h.spelled.1.valid
-    (record { front = x.before; bytes = x.begins; spelled = subst (IsRequest K c) x.same h.spelled.1.spelled }))
+pub some_goes : (K : Bounds) (r : Read) (byte : ℕ) → HasSome K r byte → CanBecome (SomeOf (Rest K r)) (byte ∷ [])
+some_goes K r byte h = record { text = (part_now r.phase, byte) ∷ h.text; after = bytes_of h.text; spelled = (h.control, h.rest); begins = refl }
 
-pub some_next : (K : Bounds) (r : Read) (byte : ℕ) (kept : List ℕ) → Follows K r kept → HasSome K r byte → IsNext (IsControlText K) kept (part_now r.phase)
-some_next K r byte kept f h =
-    let g = f.on h.control ((part_now r.phase, byte) ∷ h.text) h.rest in
-    record { before = g.1.front; byte = byte; after = h.text; spelled = (h.control, record { valid = g.0; spelled = g.1.spelled }); begins = g.1.bytes }
-
-pub some_becomes : (K : Bounds) (r : Read) (byte : ℕ) (kept : List ℕ) → Follows K r kept → HasSome K r byte → CanBecome (IsControlText K) (kept ++ byte ∷ [])
-some_becomes K r byte kept f h =
-    let part = part_now r.phase in
-    let g = f.on h.control ((part, byte) ∷ h.text) h.rest in
-    record {
-      text = g.1.front ++ ((part, byte) ∷ h.text);
-      after = bytes_of h.text;
-      spelled = (h.control, record { valid = g.0; spelled = g.1.spelled });
-      begins = bytes_of-append g.1.front ((part, byte) ∷ h.text) ∙ ap (λ (x : List ℕ). x ++ (byte ∷ bytes_of h.text)) g.1.bytes ∙ sym (append_assoc kept (byte ∷ []) (bytes_of h.text));
-    }
-
-pub whole_text : (K : Bounds) (begun kept : List ℕ) (d : Control) → IsControl d → Follows K (read_at Whole begun d) kept → IsText (ControlOf K d) kept
-whole_text K begun kept d is f =
-    let g = f.on d [] (is, refl, refl) in
-    record {
-      text = g.1.front ++ [];
-      spelled = record { valid = g.0; spelled = g.1.spelled };
-      same = ap bytes_of (append-nil g.1.front) ∙ g.1.bytes;
-    }
+pub some_next : (K : Bounds) (r : Read) (byte : ℕ) → HasSome K r byte → IsNext (SomeOf (Rest K r)) [] (part_now r.phase)
+some_next K r byte h = record { before = []; byte = byte; after = h.text; spelled = (h.control, h.rest); begins = refl }
 
 -- ---- the laws
 

@@ -1,12 +1,19 @@
 -- Control data of a request (RFC 9292, section 3.4), and what a reader of it answers.
-use Rattle.std.specs.Prelude.{ℕ, List, ◌++◌, take}
+use Rattle.std.specs.Prelude.{ℕ, ◌≡◌, List, []}
 use Rattle.bh_spec.specs.Bounds.{Bounds, no_bounds}
 use Rattle.bh_spec.specs.Messages.{Control, IsControl}
 use Rattle.bh_spec.specs.Spelling.{IsRequest}
 use Rattle.bh_spec.specs.Texts.{Text}
-use Rattle.bh_control.specs.declared.control.ControlStep.{ControlStep}
-use Rattle.bh_control.specs.declared.control.ControlStep.TheVariants.{Need, Whole, Dead, Limit}
-use Rattle.bh_spec.specs.Pieces.{SomeOf, Ends, GoesOn, IsDead, IsLimit}
+use Rattle.bh_spec.specs.declared.PieceStep.{PieceStep}
+use Rattle.bh_spec.specs.declared.Judged.{Judged}
+use Rattle.bh_spec.specs.Pieces.{SomeOf}
+use Rattle.bh_spec.specs.Residuals.{IsResidual}
+use Rattle.bh_spec.specs.Readings.{Stage, reading, Leads as ReaderLeads, LeadsTo, stage_behind, Takes as ReaderTakes}
+use Rattle.bh_control.specs.declared.progress.Phase.{Phase}
+use Rattle.bh_control.specs.declared.progress.Phase.TheVariants.{Length}
+use Rattle.bh_control.specs.declared.strings.Place.TheVariants.{Method}
+use Rattle.bh_control.specs.Stored.{no_strings}
+use Rattle.bh_control.specs.Phases.{Rest as read_rest}
 
 -- the text of control data that keeps the rules, within the limits
 pub record ControlOf (L : Bounds) (c : Control) (t : Text) : Type 0 where
@@ -16,37 +23,47 @@ pub record ControlOf (L : Bounds) (c : Control) (t : Text) : Type 0 where
 abbrev pub IsControlText : Bounds → Text → Type 0
 IsControlText L = SomeOf (ControlOf L)
 
--- where a reader stands
-pub data Stage : Type 0 where
-  idle : Stage
-  reading : Stage
-  whole : Stage
-  refused : Stage
-
--- what a reader has: the limits, the bytes since it began, where it stands, and the control data so far
+-- A reader: its limits, where it stands, and of the control data that it reads the phase, the bytes of a number that was begun, and
+-- what it will hand out.
 pub record ControlState : Type 0 where
   pub limits : Bounds
-  pub kept : List ℕ
   pub stage : Stage
+  pub phase : Phase
+  pub begun : List ℕ
   pub control : Control
 
--- what the answer says of the bytes before the piece, and of the piece
-abbrev pub AnswersControl : Bounds → List ℕ → List ℕ → ControlStep → Type 0
-AnswersControl L bytes piece Need = GoesOn (IsControlText L) bytes piece
-AnswersControl L bytes piece (Whole taken) = Ends (IsControlText L) bytes piece taken
-AnswersControl L bytes piece (Dead offset part) = IsDead (IsControlText L) (IsControlText no_bounds) bytes piece offset part
-AnswersControl L bytes piece (Limit offset part) = IsLimit (IsControlText L) (IsControlText no_bounds) bytes piece offset part
+-- the text completes the control data c from what is stored, within the limits
+abbrev pub Rest : Bounds → ControlState → Control → Text → Type 0
+Rest K v = read_rest K (record { phase = v.phase; begun = v.begun; control = v.control })
 
--- the bytes since it began, behind the answer
-abbrev pub control_kept : List ℕ → List ℕ → ControlStep → List ℕ
-control_kept bytes piece Need = bytes ++ piece
-control_kept bytes piece (Whole taken) = bytes ++ take taken piece
-control_kept bytes piece (Dead offset part) = bytes ++ take offset piece
-control_kept bytes piece (Limit offset part) = bytes ++ take offset piece
+-- at the beginning
+abbrev pub begun_state : ControlState → ControlState
+begun_state v = record { limits = v.limits; stage = reading; phase = Length Method; begun = []; control = no_strings }
 
--- where it stands behind the answer
-abbrev pub stage_behind : ControlStep → Stage
-stage_behind Need = reading
-stage_behind (Whole taken) = whole
-stage_behind (Dead offset part) = refused
-stage_behind (Limit offset part) = refused
+-- what completes the control data: within the reader's limits, and without limits
+abbrev pub IsWanted : ControlState → Text → Type 0
+IsWanted v = SomeOf (Rest v.limits v)
+
+abbrev pub IsUnlimited : ControlState → Text → Type 0
+IsUnlimited v = SomeOf (Rest no_bounds v)
+
+-- behind the bytes exactly what completes w completes v
+abbrev pub Leads : Bounds → ControlState → List ℕ → ControlState → Type 0
+Leads L v bytes w = ReaderLeads (Rest L v) (Rest no_bounds v) (Rest L w) (Rest no_bounds w) bytes
+
+-- some bytes lead to what is stored: what completes it is what is left of control data behind them
+pub record IsLeft (L : Bounds) (v : ControlState) : Type 0 where
+  pub bytes : List ℕ
+  pub within : IsResidual (ControlOf L) bytes (λ c. c) (Rest L v)
+  pub anyway : IsResidual (ControlOf no_bounds) bytes (λ c. c) (Rest no_bounds v)
+
+-- the reader behind the answer
+pub record IsBehind (v : ControlState) (piece : List ℕ) (step : PieceStep) (w : ControlState) : Type 0 where
+  pub limits : w.limits ≡ v.limits
+  pub stage : w.stage ≡ stage_behind step
+  pub leads : LeadsTo (Rest v.limits v) (Rest no_bounds v) (Rest v.limits w) (Rest no_bounds w) piece step w.control
+
+-- what a byte makes of a reader
+pub record Takes (j : Judged) (v : ControlState) (byte : ℕ) (w : ControlState) : Type 0 where
+  pub limits : w.limits ≡ v.limits
+  pub says : ReaderTakes (Rest v.limits v) (Rest no_bounds v) (Rest v.limits w) (Rest no_bounds w) byte j w.stage w.control

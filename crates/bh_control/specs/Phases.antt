@@ -1,5 +1,5 @@
 -- Control data of a request in a reader (RFC 9292, section 3.4): what has been read, and which texts complete it.
-use Rattle.std.specs.Prelude.{ℕ, zero, suc, ◌≡◌, ◌<◌, ◌≤◌, ◌⊎◌, ◌+◌, ◌-◌, ◌*◌, List, [], ◌∷◌, ◌++◌, length, All, IsTrue, codes}
+use Rattle.std.specs.Prelude.{ℕ, zero, suc, ◌≡◌, ◌<◌, ◌≤◌, ◌⊎◌, ◌+◌, List, [], ◌∷◌, ◌++◌, length, All, IsTrue, codes}
 use Rattle.std.specs.Char.{to_ascii_lowercase}
 use Rattle.bh_spec.specs.declared.Part.{Part}
 use Rattle.bh_spec.specs.declared.Part.TheVariants as parts
@@ -7,7 +7,7 @@ use Rattle.bh_spec.specs.declared.Width.{Width}
 use Rattle.bh_spec.specs.Integers.{vi, limit_of, Begins}
 use Rattle.bh_spec.specs.Bounds.{Bounds, IsWithin}
 use Rattle.bh_spec.specs.Bytes.{is_letter, is_token, is_scheme, is_authority, is_path, lower}
-use Rattle.bh_spec.specs.Messages.{IsPath, Control, IsControl, IsToken, IsScheme, IsWeb, IsWebPath}
+use Rattle.bh_spec.specs.Messages.{IsPath, Control, IsControl, IsToken, IsScheme, IsWeb}
 use Rattle.bh_spec.specs.Texts.{Text, mark}
 use Rattle.bh_varint.specs.Step.{IsUnfinished}
 use Rattle.bh_control.specs.declared.strings.Place.{Place}
@@ -130,7 +130,8 @@ Agrees Path d c = (d.method ≡ c.method) × (d.scheme ≡ c.scheme) × (d.autho
 -- The text completes the control data c.
 abbrev pub RestAt : Bounds → Phase → Read → Control → Text → Type 0
 RestAt K Idle r c t = ⊥
-RestAt K (Length place) r c t = IsControl c × Agrees place r.control c × HasString K place c (Behind K place c) (mark (long_of place) r.begun ++ t)
+RestAt K (Length place) r c t = IsControl c × Agrees place r.control c
+    × HasString K place c (Behind K place c) (mark (long_of place) r.begun ++ t)
 RestAt K (Bytes place left) r c t = IsControl c × Agrees place r.control c × HasRest K place c (string_at place r.control) left t
 RestAt K Whole r c t = IsControl c × (r.control ≡ c) × (t ≡ [])
 RestAt K Refused r c t = ⊥
@@ -221,20 +222,6 @@ IsOpenAt Refused most r = ⊥
 
 abbrev pub IsOpen : ℕ → Read → Type 0
 IsOpen most r = IsOpenAt r.phase most r
-
-abbrev pub strings_behind : Place → ℕ
-strings_behind Method = 3
-strings_behind Scheme = 2
-strings_behind Authority = 1
-strings_behind Path = 0
-
--- at most so many bytes may come
-abbrev pub to_come : ℕ → Phase → List ℕ → ℕ
-to_come most Idle begun = 0
-to_come most (Length place) begun = strings_behind place * (most + 8) + (most + (8 - length begun))
-to_come most (Bytes place left) begun = strings_behind place * (most + 8) + left
-to_come most Whole begun = 0
-to_come most Refused begun = 0
 
 -- ---- a byte more
 

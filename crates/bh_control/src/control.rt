@@ -1,59 +1,38 @@
 //! The control data of a request.
-ghost use Rattle.std.specs.Prelude.{◌≡◌, ◌↔◌, ◌≤◌, ◌+◌, ◌*◌, ℕ, [], Some, IfOk, length};
+ghost use Rattle.std.specs.Prelude.{◌≡◌, ◌↔◌, ℕ, [], IfOk};
 ghost use Rattle.bh_model.specs.Values.{control_lent};
-ghost use Rattle.bh_spec.specs.declared.Part.{Part};
-ghost use Rattle.bh_spec.specs.Bounds.{no_bounds};
-ghost use Rattle.bh_spec.specs.Pieces.{IsText, IsNext, Ends, GoesOn, IsDead, IsLimit};
+ghost use Rattle.bh_spec.specs.Pieces.{IsNext, Ends, GoesOn, IsDead, IsLimit};
 ghost use Rattle.bh_control.specs.Stored.{no_strings};
-ghost use Rattle.bh_control.specs.Control.{ControlOf, IsControlText, reading, idle, AnswersControl, control_kept, stage_behind};
+ghost use Rattle.bh_spec.specs.declared.Part.{Part as part_type};
+ghost use Rattle.bh_spec.specs.Readings.{reading, idle, Shows};
+ghost use Rattle.bh_control.specs.Control.{IsWanted, IsUnlimited, begun_state, IsBehind, IsLeft, Takes};
 
 use crate::progress::{Outcome, Phase, Progress};
 use crate::strings::{Place, Strings};
 use bh_base::NoMemory;
 use bh_model::{ControlView, Limits, Part};
+use bh_spec::{Judged, PieceStep as ControlStep};
 use bh_varint::Partial;
 use std::alloc::Global;
 use std::marker::Model;
 
-/// What a piece makes of control data.
-#[derive(Clone, Copy, Debug, PartialEq, Eq)]
-pub enum ControlStep {
-    /// The whole piece was taken, and the control data goes on.
-    Need,
-    /// The control data ends with the `taken`th byte of the piece.
-    Whole { taken: usize },
-    /// The byte of the piece with this number, counted from 0, is the first with which no control data begins so. `part` is
-    /// what the byte at that place belongs to.
-    Dead { offset: usize, part: Part },
-    /// With that byte control data may begin so, but none within the limits.
-    Limit { offset: usize, part: Part },
-}
-
 /// Reads the control data of a request: method, scheme, authority and path, each a length and its bytes (RFC 9292,
-/// section 3.4), by the rules of RFC 9113, section 8.3.1. It keeps its bytes since `begin`, at most `4 * (part + 8)`.
+/// section 3.4), by the rules of RFC 9113, section 8.3.1. It stores the four strings and a few numbers.
 #[derive(Drop)]
 pub struct ControlReader {
     limits: Limits,
-    kept: Vec<u8>,
     progress: Progress,
 }
 
 impl Model for ControlReader {
-    ghost use Rattle.std.specs.Prelude.{vec_capacity};
     ghost use Rattle.bh_control.specs.Control.{ControlState};
-    ghost use Rattle.bh_control.specs.Stored.{control_in};
-    ghost use Rattle.bh_control.specs.Sound.{stage_of, IsSound};
+    ghost use Rattle.bh_control.specs.Sound.{state_at, IsSound};
 
     ghost Value = { ControlState };
 
-    ghost view = { λ r. record {
-      limits = r.limits;
-      kept = r.kept.items;
-      stage = stage_of r.progress.phase;
-      control = control_in r.progress.strings;
-    } };
+    ghost view = { λ r. state_at r.limits r.progress.phase r.progress };
 
-    ghost invariant = { λ r. IsSound r.limits (vec_capacity r.kept) r.kept.items r.progress };
+    ghost invariant = { λ r. IsSound r.limits r.progress };
 }
 
 impl ControlReader {
@@ -61,15 +40,12 @@ impl ControlReader {
     pub fn new(alloc: Global, limits: &Limits) -> Result<ControlReader, NoMemory>
         ensures limits { IfOk result (λ reader. reader.limits ≡ limits.now) }
         ensures stage { IfOk result (λ reader. reader.stage ≡ idle) }
-        ensures kept { IfOk result (λ reader. reader.kept ≡ []) }
         ensures control { IfOk result (λ reader. reader.control ≡ no_strings) }
     {
         let most = limits.part();
-        let kept = Vec::with_capacity(alloc, 4 * (most as usize + 8))?;
         let strings = Strings::with_room(alloc, most as usize)?;
         Ok(ControlReader {
             limits: *limits,
-            kept,
             progress: Progress {
                 most,
                 phase: Phase::Idle,
@@ -81,12 +57,8 @@ impl ControlReader {
 
     /// Begins new control data.
     pub fn begin(&mut self)
-        ensures limits { self.new.limits ≡ self.old.limits }
-        ensures stage { self.new.stage ≡ reading }
-        ensures kept { self.new.kept ≡ [] }
-        ensures control { self.new.control ≡ no_strings }
+        ensures { self.new ≡ begun_state self.old }
     {
-        self.kept.clear();
         self.progress.strings.clear();
         self.progress.partial = Partial::new();
         self.progress.phase = Phase::Length(Place::Method);
@@ -96,53 +68,70 @@ impl ControlReader {
     /// refused.
     pub fn push(&mut self, piece: &[u8]) -> ControlStep
         requires { self.old.stage ≡ reading }
-        ensures need { (result ≡ ControlStep.Need) ↔ GoesOn (IsControlText self.old.limits) self.old.kept piece.now }
+        ensures need { (result ≡ ControlStep.Need) ↔ GoesOn (IsWanted self.old) [] piece.now }
         ensures whole { (taken : ℕ)
-            → (result ≡ ControlStep.Whole taken) ↔ Ends (IsControlText self.old.limits) self.old.kept piece.now taken }
-        ensures dead { (offset : ℕ) (part : Part)
+            → (result ≡ ControlStep.Whole taken) ↔ Ends (IsWanted self.old) [] piece.now taken }
+        ensures dead { (offset : ℕ) (part : part_type)
             → (result ≡ ControlStep.Dead offset part)
-            ↔ IsDead (IsControlText self.old.limits) (IsControlText no_bounds) self.old.kept piece.now offset part }
-        ensures limit { (offset : ℕ) (part : Part)
+            ↔ IsDead (IsWanted self.old) (IsUnlimited self.old) [] piece.now offset part }
+        ensures limit { (offset : ℕ) (part : part_type)
             → (result ≡ ControlStep.Limit offset part)
-            ↔ IsLimit (IsControlText self.old.limits) (IsControlText no_bounds) self.old.kept piece.now offset part }
+            ↔ IsLimit (IsWanted self.old) (IsUnlimited self.old) [] piece.now offset part }
 
         // The same by cases, as an arm of a caller's `match` reads it.
-        ensures shows { AnswersControl self.old.limits self.old.kept piece.now result }
-        ensures values { (taken : ℕ) → result ≡ ControlStep.Whole taken
-            → IsText (ControlOf self.old.limits self.new.control) self.new.kept }
-        ensures kept { self.new.kept ≡ control_kept self.old.kept piece.now result }
-        ensures stage { self.new.stage ≡ stage_behind result }
-        ensures limits { self.new.limits ≡ self.old.limits }
-        ensures few { (most : ℕ) → self.old.limits.part ≡ Some most → length self.new.kept ≤ 4 * (most + 8) }
+        ensures shows { Shows (IsWanted self.old) (IsUnlimited self.old) [] piece.now result }
+        ensures behind { IsBehind self.old piece.now result self.new }
     {
-        for (i, byte) in piece.iter().enumerate() {
-            let part = self.progress.next_part();
-            match self.progress.step(*byte) {
-                Outcome::Taken => {
-                    self.kept.push_reserved(*byte);
-                    if self.progress.is_whole() {
-                        return ControlStep::Whole { taken: i + 1 };
-                    }
-                }
-                Outcome::Dead => {
-                    self.progress.phase = Phase::Refused;
-                    return ControlStep::Dead { offset: i, part };
-                }
-                Outcome::Limit => {
-                    self.progress.phase = Phase::Refused;
-                    return ControlStep::Limit { offset: i, part };
-                }
+        let mut part = self.first_part();
+        for (offset, &byte) in piece.iter().enumerate() {
+            match self.take(byte) {
+                Judged::More => part = self.next_part(),
+                Judged::Whole => return ControlStep::Whole { taken: offset + 1 },
+                Judged::Limit => return ControlStep::Limit { offset, part },
+                Judged::Dead => return ControlStep::Dead { offset, part },
             }
         }
         ControlStep::Need
     }
 
+    /// The part of the next byte.
+    fn first_part(&self) -> Part
+        requires { self.now.stage ≡ reading }
+        ensures next { IsNext (IsWanted self.now) [] result }
+        ensures left { IsLeft self.now.limits self.now }
+    {
+        self.progress.next_part()
+    }
+
+    /// Takes a byte.
+    fn take(&mut self, byte: u8) -> Judged
+        requires { self.old.stage ≡ reading }
+        ensures { Takes result self.old byte self.new }
+    {
+        match self.progress.step(byte) {
+            Outcome::Taken => {
+                if self.progress.is_whole() {
+                    return Judged::Whole;
+                }
+                Judged::More
+            }
+            Outcome::Dead => {
+                self.progress.phase = Phase::Refused;
+                Judged::Dead
+            }
+            Outcome::Limit => {
+                self.progress.phase = Phase::Refused;
+                Judged::Limit
+            }
+        }
+    }
+
     /// The part of the next byte. The control data was begun, and is neither whole nor refused.
     pub fn next_part(&self) -> Part
         requires { self.now.stage ≡ reading }
-        ensures { IsNext (IsControlText self.now.limits) self.now.kept result }
+        ensures { IsNext (IsWanted self.now) [] result }
     {
-        self.progress.next_part()
+        self.first_part()
     }
 
     /// What was read of the control data, the scheme in lower case: between `Whole` and the next `begin` all of it.

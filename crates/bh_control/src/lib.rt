@@ -6,13 +6,15 @@
 
 mod control;
 mod laws;
-mod numbers;
 mod progress;
+mod sets;
 mod status;
 mod strings;
 
-pub use control::{ControlReader, ControlStep};
-pub use laws::{one_control, one_next_part};
+pub use bh_spec::PieceStep as ControlStep;
+pub use control::ControlReader;
+pub use laws::{begun_is_control_data, one_control, one_next_part, same_from_the_beginning};
+pub use sets::numbers;
 pub use status::{StatusReader, StatusStep};
 
 #[cfg(test)]

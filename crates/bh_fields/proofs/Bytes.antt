@@ -1,8 +1,8 @@
 -- From one state of a section to the next by the bytes of names and values, and at the end of a line.
-use Rattle.std.proofs.Common.{◌≡◌, ◌<◌, ◌≤◌, ◌+◌, ◌-◌, ◌⊎◌, ◌↔◌, arith, ℕ, zero, suc, Bool, true, false, IsTrue, List, [], ◌∷◌, ◌++◌, length, Option, Some, None, refl, sym, ap, subst, ◌∙◌, inl, inr, append_assoc, append-nil}
+use Rattle.std.proofs.Common.{◌≡◌, ◌<◌, ◌≤◌, ◌+◌, ◌-◌, ◌⊎◌, ◌↔◌, arith, ℕ, zero, suc, Bool, true, false, IsTrue, List, [], ◌∷◌, ◌++◌, length, Option, Some, None, refl, sym, ap, subst, ◌∙◌, inl, inr}
 use Rattle.std.specs.Prelude.{option_map, option_to_list}
 use Rattle.std.specs.Char.{to_ascii_lowercase}
-use Rattle.std.proofs.lemmas.List.{length-append, map-append}
+use Rattle.std.proofs.lemmas.List.{length-append}
 use Rattle.std.proofs.lemmas.Bool.{false≢true}
 use Rattle.bh_spec.specs.declared.Form.TheVariants.{Indeterminate}
 use Rattle.bh_spec.specs.declared.Part.{Part}
@@ -18,19 +18,18 @@ use Rattle.bh_model.specs.Rules.{IsNameBehind}
 use Rattle.bh_model.specs.Lines.{FieldsView, name_grown, value_grown}
 use Rattle.bh_fields.specs.declared.walk.Phase.{Phase}
 use Rattle.bh_fields.specs.declared.walk.Phase.TheVariants as phases
-use Rattle.bh_fields.specs.declared.walk.Judged.TheVariants as judged
+use Rattle.bh_spec.specs.declared.Judged.TheVariants as judged
 use Rattle.bh_fields.specs.Sets.{values_set}
-use Rattle.bh_fields.specs.Rests.{Spot, further, with_line, NumberThen, AreGood, LinesLeft, ValueLeft, ValueBody, NameLeft, NameBody}
-use Rattle.bh_fields.specs.Tracks.{Tracked}
+use Rattle.bh_fields.specs.Rests.{Spot, further, with_line, AreGood, LinesLeft, ValueLeft, NameLeft, NameBody}
+use Rattle.bh_fields.specs.Bytewise.{Steps, AreSame, HasNone}
 use Rattle.bh_fields.specs.Names.{MayBePseudo, NameTakes, flag_behind, ValueTakes, IsValueByte}
-use Rattle.bh_fields.specs.Points.{Point, spot_of, part_of, IsSized, NextState, NamedState, making_of, NameState, InValue, Moves, Goes, IsStep}
-use Rattle.bh_fields.proofs.Tracking.{tracked_step, tracked_same, tracked_dead}
+use Rattle.bh_fields.specs.Points.{Point, spot_of, RestOf, LinesAt, NamedAt, part_of, IsSized, NextState, NamedState, making_of, NameState, InValue, Moves, IsStep}
 use Rattle.bh_fields.proofs.Strings.{line_of, name_whole, flag_on, name_good, flag_good, name_takes, value_takes, value_good, value_whole}
 use Rattle.bh_fields.proofs.Lines.{name_forth, name_back, name_to_value, value_to_name, value_forth, value_back, value_to_lines, lines_to_value}
 use Rattle.bh_fields.proofs.Counting.{name_allowed, values_begin, name_left_is, value_left_is, good_on}
 use Rattle.bh_fields.proofs.Memory.{lines_room-push}
-use Rattle.bh_fields.proofs.States.{name_next, value_next}
-use Rattle.bh_fields.proofs.Changes.{with_lines, of_used, sized_used, push_long}
+use Rattle.bh_fields.proofs.States.{NumberText, ValuesAt, NameAt, ValueAt, steps_same, same_on, turned, rest_in, steps_in, line_is, name_rest, value_rest_of}
+use Rattle.bh_fields.proofs.Changes.{with_lines, of_used, sized_used}
 
 -- ---- the first byte of a name
 
@@ -61,7 +60,6 @@ sized_started p fields z idle s = record {
   part_low = z.part_low;
   most_is = z.most_is;
   most_high = z.most_high;
-  capacity = z.capacity;
   bytes = rw (s.lines, s.making) (omega (arith, s.spare, rw idle at z.bytes));
   count = rw (s.lines, s.making) (omega (arith, s.free, rw idle at z.count));
 }
@@ -71,11 +69,12 @@ abbrev spot_with : Point → List Field → Spot
 spot_with p done = record { form = p.form; place = p.place; total = p.total; used = p.used; done = done }
 
 pub name_begun : (p : Point) (n bytes : ℕ) (fields : FieldsView) → IsSized p → NamedState p n bytes → 0 < n → 1 ≤ bytes → IsStarted p.fields fields
-    → Moves judged.More p (phases.Name n) (with_lines fields (of_used (p.used + (bytes + n)) (length p.kept) p))
+    → Moves judged.More (NamedAt p n bytes) p (phases.Name n) (with_lines fields (of_used (p.used + (bytes + n)) p))
 name_begun p n bytes fields z h some one s =
     let r = name_room p n bytes z h some in
-    let q = of_used (p.used + (bytes + n)) (length p.kept) p in (
-      sized_started q fields (sized_used (p.used + (bytes + n)) (length p.kept) p z) h.between.idle s,
+    let q = of_used (p.used + (bytes + n)) p in
+    let next = with_lines fields q in (
+      sized_started q fields (sized_used (p.used + (bytes + n)) p z) h.between.idle s,
       record {
         name = [];
         making = s.making;
@@ -83,20 +82,17 @@ name_begun p n bytes fields z h some one s =
         kind = record { lower_case = refl; kind = some };
         within = subst (λ (o : Option ℕ). IsWithin o (0 + n)) (sym z.part_is) (omega (arith, r.0));
         some = some;
-        stands = record { front = p.kept; spelled = []; whole = sym (append-nil p.kept); begins = refl; lowered = refl };
         good = subst (AreGood p.limits p.place) (sym s.lines) h.between.good;
         bounded = h.between.bounded;
         room = omega (arith, r.1, r.2, h.between.room);
         spare = omega (arith, s.spare, h.between.spare, r.1, one);
         free = omega (arith, s.spare, s.free, h.between.free);
         number = h.number;
-        long = omega (arith, h.long, r.1);
-        tracked = subst (λ (x : List Field). Tracked p.form p.place p.kept (λ L fs t. NameLeft L (spot_with q x) [] n fs t)) (sym s.lines)
-            (tracked_same p.form p.place p.kept (λ L fs t. NameBody L (spot_of p) fs n bytes t) (λ L fs t. NameLeft L (spot_of q) [] n fs t) h.tracked
-            (λ K fs t b. body b) (λ K fs t l. inr (some, l)));
       },
       record { limits = refl; form = refl; place = refl },
-      refl,
+      same_on (NamedAt p n bytes) (NameAt q [] n) (RestOf (phases.Name n) next) (record { forth = λ K fs t b. body b; back = λ K fs t l. inr (some, l) })
+          (turned (RestOf (phases.Name n) next) (NameAt q [] n)
+          (rest_in (phases.Name n) next (line_of [] []) (spot_of q) (line_is next [] [] s.making) (ap (spot_with q) s.lines))),
     )
   where
     body : {K : Bounds} {fs : List Field} {t : Text} → NameBody K (spot_of p) fs n bytes t → NameLeft K (further (bytes + n) (spot_of p)) [] n fs t
@@ -121,14 +117,13 @@ sized_named p byte name fields z e s = record {
   part_low = z.part_low;
   most_is = z.most_is;
   most_high = z.most_high;
-  capacity = z.capacity;
   bytes = rw (s.lines, making_name byte name p.fields fields e s) (omega (arith, s.spare, rw e at z.bytes, length-append name (to_ascii_lowercase byte ∷ [])));
   count = rw (s.lines, making_name byte name p.fields fields e s) (omega (arith, s.free, rw e at z.count));
 }
 
 -- the point behind a byte of a name
-abbrev pub named_point : Bool → FieldsView → List ℕ → ℕ → Point → Point
-named_point flag fields kept capacity p = record {
+abbrev pub named_point : Bool → FieldsView → Point → Point
+named_point flag fields p = record {
   limits = p.limits;
   form = p.form;
   place = p.place;
@@ -136,97 +131,99 @@ named_point flag fields kept capacity p = record {
   used = p.used;
   number = p.number;
   flag = flag;
-  name_at = p.name_at;
   fields = fields;
-  kept = kept;
-  capacity = capacity;
 }
 
-sized_flag : (flag : Bool) (kept : List ℕ) (capacity : ℕ) (p : Point) → IsSized p → capacity ≡ p.capacity → IsSized (named_point flag p.fields kept capacity p)
-sized_flag flag kept capacity p z e = record {
+sized_flag : (flag : Bool) (p : Point) → IsSized p → IsSized (named_point flag p.fields p)
+sized_flag flag p z = record {
   part_is = z.part_is;
   part_low = z.part_low;
   most_is = z.most_is;
   most_high = z.most_high;
-  capacity = omega (arith, z.capacity);
   bytes = z.bytes;
   count = z.count;
 }
 
-name_tracked : (p : Point) (m byte : ℕ) → IsSized p → (h : NameState p (suc m))
-    → Tracked p.form p.place (p.kept ++ byte ∷ []) (λ L fs t. NameLeft L (spot_of p) (h.name ++ to_ascii_lowercase byte ∷ []) m fs t)
-name_tracked p m byte z h =
-    tracked_step p.form p.place p.kept (λ L fs t. NameLeft L (spot_of p) h.name (suc m) fs t) (λ L fs t. NameLeft L (spot_of p) (h.name ++ to_ascii_lowercase byte ∷ []) m fs t)
-    h.tracked p.limits parts.Name byte (name_next p (suc m) z h)
-    (λ K fs t l. name_forth K (spot_of p) h.name m byte fs t l) (λ K fs t l. name_back K (spot_of p) h.name m byte fs t l)
+name_steps : (p : Point) (name : List ℕ) (m byte : ℕ) → Steps (NameAt p name (suc m)) (NameAt p (name ++ to_ascii_lowercase byte ∷ []) m) parts.Name byte
+name_steps p name m byte = record {
+  forth = λ K fs t l. name_forth K (spot_of p) name m byte fs t l;
+  back = λ K fs t l. name_back K (spot_of p) name m byte fs t l;
+}
 
 -- the bytes of a name that goes on
-name_more : (p : Point) (m byte : ℕ) (flag : Bool) (fields : FieldsView) (kept : List ℕ) (capacity : ℕ) → byte < 256 → IsSized p → (h : NameState p (suc m)) → 0 < m
-    → NameTakes p.flag h.name (suc m) byte → flag ≡ flag_behind p.flag h.name byte → IsNamedOn byte p.fields fields → kept ≡ p.kept ++ byte ∷ [] → capacity ≡ p.capacity
-    → IsStep judged.More p byte (phases.Name m) (named_point flag fields kept capacity p)
-name_more p m byte flag fields kept capacity small z h some takes ef s ek ec =
-    subst (λ (x : Bool). IsStep judged.More p byte (phases.Name m) (named_point x fields kept capacity p)) (sym ef)
-    (subst (λ (k : List ℕ). IsStep judged.More p byte (phases.Name m) (named_point (flag_behind p.flag h.name byte) fields k capacity p)) (sym ek) there)
+name_more : (p : Point) (m byte : ℕ) (flag : Bool) (fields : FieldsView) → byte < 256 → IsSized p → (h : NameState p (suc m)) → 0 < m
+    → NameTakes p.flag h.name (suc m) byte → flag ≡ flag_behind p.flag h.name byte → IsNamedOn byte p.fields fields
+    → IsStep judged.More (phases.Name (suc m)) p byte (phases.Name m) (named_point flag fields p)
+name_more p m byte flag fields small z h some takes ef s =
+    subst (λ (x : Bool). IsStep judged.More (phases.Name (suc m)) p byte (phases.Name m) (named_point x fields p)) (sym ef) (
+      sized_named q byte h.name fields (sized_flag f p z) h.making s,
+      record {
+        name = more;
+        making = making;
+        flag = subst (λ (x : List Field). IsTrue f ↔ MayBePseudo p.place x more) (sym s.lines) (flag_good p.place p.fields.lines h.name (suc m) byte p.flag small h.flag takes);
+        kind = name_good p.flag h.name m byte small h.kind takes;
+        within = subst (IsWithin p.limits.part) (omega (arith, length-append h.name (to_ascii_lowercase byte ∷ []))) h.within;
+        some = some;
+        good = subst (AreGood p.limits p.place) (sym s.lines) h.good;
+        bounded = h.bounded;
+        room = h.room;
+        spare = omega (arith, s.spare, h.spare);
+        free = omega (arith, s.spare, s.free, h.free, length-append h.name (to_ascii_lowercase byte ∷ []));
+        number = h.number;
+      },
+      record { limits = refl; form = refl; place = refl },
+      steps_in (NameAt p h.name (suc m)) (NameAt p more m) (phases.Name (suc m)) p (phases.Name m) next parts.Name byte
+          (name_rest p h.name [] (suc m) h.making)
+          (rest_in (phases.Name m) next (line_of more []) (spot_of p) (line_is next more [] making) (ap (spot_with p) s.lines)) (name_steps p h.name m byte),
+    )
   where
     more : List ℕ
     more = h.name ++ to_ascii_lowercase byte ∷ []
 
-    there : IsStep judged.More p byte (phases.Name m) (named_point (flag_behind p.flag h.name byte) fields (p.kept ++ byte ∷ []) capacity p)
-    there =
-        let f = flag_behind p.flag h.name byte in
-        let q = named_point f p.fields (p.kept ++ byte ∷ []) capacity p in (
-          sized_named q byte h.name fields (sized_flag f (p.kept ++ byte ∷ []) capacity p z ec) h.making s,
-          record {
-            name = h.name ++ to_ascii_lowercase byte ∷ [];
-            making = making_name byte h.name p.fields fields h.making s;
-            flag = subst (λ (x : List Field). IsTrue f ↔ MayBePseudo p.place x (h.name ++ to_ascii_lowercase byte ∷ [])) (sym s.lines)
-                (flag_good p.place p.fields.lines h.name (suc m) byte p.flag small h.flag takes);
-            kind = name_good p.flag h.name m byte small h.kind takes;
-            within = subst (IsWithin p.limits.part) (omega (arith, length-append h.name (to_ascii_lowercase byte ∷ []))) h.within;
-            some = some;
-            stands = record {
-              front = h.stands.front;
-              spelled = h.stands.spelled ++ byte ∷ [];
-              whole = ap (λ (x : List ℕ). x ++ byte ∷ []) h.stands.whole ∙ append_assoc h.stands.front h.stands.spelled (byte ∷ []);
-              begins = h.stands.begins;
-              lowered = map-append to_ascii_lowercase h.stands.spelled (byte ∷ []) ∙ ap (λ (x : List ℕ). x ++ to_ascii_lowercase byte ∷ []) h.stands.lowered;
-            };
-            good = subst (AreGood p.limits p.place) (sym s.lines) h.good;
-            bounded = h.bounded;
-            room = h.room;
-            spare = omega (arith, s.spare, h.spare);
-            free = omega (arith, s.spare, s.free, h.free, length-append h.name (to_ascii_lowercase byte ∷ []));
-            number = h.number;
-            long = omega (arith, push_long p.kept byte, h.long);
-            tracked = subst (λ (x : List Field). Tracked p.form p.place (p.kept ++ byte ∷ []) (λ L fs t. NameLeft L (spot_with p x) (h.name ++ to_ascii_lowercase byte ∷ []) m fs t)) (sym s.lines)
-                (name_tracked p m byte z h);
-          },
-          record { limits = refl; form = refl; place = refl },
-          refl,
-        )
+    f : Bool
+    f = flag_behind p.flag h.name byte
+
+    q : Point
+    q = named_point f p.fields p
+
+    next : Point
+    next = named_point f fields p
+
+    making : fields.making ≡ making_of more []
+    making = making_name byte h.name p.fields fields h.making s
+
+-- behind a name nothing but its value's length may follow
+value_behind : (p : Point) (name : List ℕ) → p.number ≡ [] → AreSame (NameAt p name 0) (NumberText parts.ValueLength (ValuesAt p name) p.number)
+value_behind p name e =
+    subst (λ (x : List ℕ). AreSame (NameAt p name 0) (NumberText parts.ValueLength (ValuesAt p name) x)) (sym e)
+    (record {
+      forth = λ K fs t l. name_to_value K (spot_of p) name fs t l;
+      back = λ K fs t l. value_to_name K (spot_of p) name fs t l;
+    })
 
 -- the last byte of a name
-name_last : (p : Point) (byte : ℕ) (flag : Bool) (fields : FieldsView) (kept : List ℕ) (capacity : ℕ) → byte < 256 → IsSized p → (h : NameState p 1)
-    → NameTakes p.flag h.name 1 byte → flag ≡ flag_behind p.flag h.name byte → IsNamedOn byte p.fields fields → kept ≡ p.kept ++ byte ∷ [] → capacity ≡ p.capacity
-    → IsStep judged.More p byte phases.ValueLength (named_point flag fields kept capacity p)
-name_last p byte flag fields kept capacity small z h takes ef s ek ec =
-    subst (λ (x : Bool). IsStep judged.More p byte phases.ValueLength (named_point x fields kept capacity p)) (sym ef)
-    (subst (λ (k : List ℕ). IsStep judged.More p byte phases.ValueLength (named_point (flag_behind p.flag h.name byte) fields k capacity p)) (sym ek) there)
+name_last : (p : Point) (byte : ℕ) (flag : Bool) (fields : FieldsView) → byte < 256 → IsSized p → (h : NameState p 1)
+    → NameTakes p.flag h.name 1 byte → flag ≡ flag_behind p.flag h.name byte → IsNamedOn byte p.fields fields
+    → IsStep judged.More (phases.Name 1) p byte phases.ValueLength (named_point flag fields p)
+name_last p byte flag fields small z h takes ef s =
+    subst (λ (x : Bool). IsStep judged.More (phases.Name 1) p byte phases.ValueLength (named_point x fields p)) (sym ef) there
   where
-    there : IsStep judged.More p byte phases.ValueLength (named_point (flag_behind p.flag h.name byte) fields (p.kept ++ byte ∷ []) capacity p)
+    there : IsStep judged.More (phases.Name 1) p byte phases.ValueLength (named_point (flag_behind p.flag h.name byte) fields p)
     there =
         let f = flag_behind p.flag h.name byte in
         let name = h.name ++ to_ascii_lowercase byte ∷ [] in
         let long : length name ≡ length h.name + 1 = length-append h.name (to_ascii_lowercase byte ∷ []) in
-        let q = named_point f p.fields (p.kept ++ byte ∷ []) capacity p in
+        let q = named_point f p.fields p in
+        let next = named_point f fields p in
+        let making : fields.making ≡ making_of name [] = making_name byte h.name p.fields fields h.making s in
         let may = flag_good p.place p.fields.lines h.name 1 byte p.flag small h.flag takes in
         let good = name_good p.flag h.name 0 byte small h.kind takes in
         let room : 1 ≤ p.total - p.used = omega (arith, h.room) in (
-          sized_named q byte h.name fields (sized_flag f (p.kept ++ byte ∷ []) capacity p z ec) h.making s,
+          sized_named q byte h.name fields (sized_flag f p z) h.making s,
           record {
             name = name;
             valued = record {
-              making = making_name byte h.name p.fields fields h.making s;
+              making = making;
               named = omega (arith, long);
               flag = subst (λ (x : List Field). IsTrue f ↔ MayBePseudo p.place x name) (sym s.lines) may;
               behind = subst (λ (x : List Field). IsNameBehind p.place x name) (sym s.lines) (name_whole p.place p.fields.lines name f may good);
@@ -240,27 +237,32 @@ name_last p byte flag fields kept capacity small z h takes ef s ek ec =
                 (values_begin p.form (part_of p.limits) (Some (p.total - p.used)) (omega (arith, z.part_low)) room);
             unfinished = subst IsUnfinished (sym h.number) unfinished_nil;
             spare = omega (arith, s.spare, h.spare);
-            long = omega (arith, push_long p.kept byte, h.long);
-            tracked = subst (λ (x : List Field). Tracked p.form p.place (p.kept ++ byte ∷ [])
-                (λ L fs t. NumberThen parts.ValueLength (ValueBody L (spot_with p x) name fs) (mark parts.ValueLength p.number ++ t))) (sym s.lines)
-                (subst (λ (x : List ℕ). Tracked p.form p.place (p.kept ++ byte ∷ []) (λ L fs t. NumberThen parts.ValueLength (ValueBody L (spot_of p) name fs) (mark parts.ValueLength x ++ t))) (sym h.number)
-                (tracked_same p.form p.place (p.kept ++ byte ∷ []) (λ L fs t. NameLeft L (spot_of p) name 0 fs t) (λ L fs t. NumberThen parts.ValueLength (ValueBody L (spot_of p) name fs) t)
-                (name_tracked p 0 byte z h)
-                (λ K fs t l. name_to_value K (spot_of p) name fs t l) (λ K fs t l. value_to_name K (spot_of p) name fs t l)));
           },
           record { limits = refl; form = refl; place = refl },
-          refl,
+          steps_in (NameAt p h.name 1) (NumberText parts.ValueLength (ValuesAt p name) p.number) (phases.Name 1) p phases.ValueLength next parts.Name byte
+              (name_rest p h.name [] 1 h.making)
+              (rest_in phases.ValueLength next (line_of name []) (spot_of p) (line_is next name [] making) (ap (spot_with p) s.lines))
+              (steps_same (NameAt p h.name 1) (NameAt p name 0) (NumberText parts.ValueLength (ValuesAt p name) p.number) parts.Name byte
+              (name_steps p h.name 0 byte) (value_behind p name h.number)),
         )
+
+-- the name that is stored is the name so far
+pub name_is : (p : Point) (name front : List ℕ) → p.fields.making ≡ making_of name [] → option_map (λ (line : Field). line.name) p.fields.making ≡ Some front
+    → lower name ≡ name → lower front ≡ name
+name_is p name front e f g =
+    let same : Some name ≡ Some front = sym (ap (option_map (λ (line : Field). line.name)) e) ∙ f in
+    let names : name ≡ front = cc in
+    ap lower (sym names) ∙ g
 
 -- a byte that no name has next
 pub name_dead : (p : Point) (missing byte : ℕ) (phase : Phase) → byte < 256 → IsSized p → (h : NameState p missing) → (NameTakes p.flag h.name missing byte → ⊥)
-    → IsStep judged.Dead p byte phase p
-name_dead p missing byte phase small z h none = (z, (stops p.limits, stops no_bounds), record { limits = refl; form = refl; place = refl }, refl)
+    → IsStep judged.Dead (phases.Name missing) p byte phase p
+name_dead p missing byte phase small z h none = (z, record { limits = refl; form = refl; place = refl }, stops p.limits, stops no_bounds)
   where
-    first_is : (tail : List ℕ) (m : ℕ) (fs : List Field) (t behind : Text) → length tail ≡ missing → (parts.Name, byte) ∷ t ≡ mark parts.Name tail ++ behind
+    first_is : (tail : List ℕ) (t behind : Text) → length tail ≡ missing → (parts.Name, byte) ∷ t ≡ mark parts.Name tail ++ behind
         → IsNameBehind p.place p.fields.lines (h.name ++ lower tail) → ⊥
-    first_is [] m fs t behind long e b = absurd (omega (arith, h.some))
-    first_is (c ∷ tail) m fs t behind long e b =
+    first_is [] t behind long e b = absurd (omega (arith, h.some))
+    first_is (c ∷ tail) t behind long e b =
         let x : Part × ℕ = (parts.Name, byte) in
         let y : Part × ℕ = (parts.Name, c) in
         let pair : x ≡ y = cc in
@@ -268,15 +270,20 @@ name_dead p missing byte phase small z h none = (z, (stops p.limits, stops no_bo
         none (name_takes p.place p.fields.lines h.name tail missing byte p.flag small h.flag (omega arith)
         (subst (λ (v : ℕ). IsNameBehind p.place p.fields.lines (h.name ++ (to_ascii_lowercase v ∷ lower tail))) head b))
 
-    stops : (K : Bounds) → Goes K p byte → ⊥
-    stops K =
-        tracked_dead p.form p.place p.kept (λ L fs t. NameLeft L (spot_of p) h.name missing fs t) h.tracked p.limits parts.Name byte (name_next p missing z h) K
-        (λ fs t l. first_is l.tail 0 fs t l.behind l.long l.spelled (name_left_is K (spot_of p) h.name missing fs ((parts.Name, byte) ∷ t) l))
+    stops : (K : Bounds) → HasNone (RestOf (phases.Name missing) p) K parts.Name byte
+    stops K fs t r =
+        let l : NameLeft K (spot_of p) h.name missing fs ((parts.Name, byte) ∷ t) = (name_rest p h.name [] missing h.making).forth K fs ((parts.Name, byte) ∷ t) r in
+        first_is l.tail t l.behind l.long l.spelled (name_left_is K (spot_of p) h.name missing fs ((parts.Name, byte) ∷ t) l)
 
 -- ---- the bytes of a value
 
-pub value_begins : (p : Point) (n : ℕ) → IsSized p → InValue p [] n → 0 < n → Moves judged.More p (phases.Value n true) p
-value_begins p n z h some = (z, record { value = []; inside = h; some = some; first_is = (λ e. refl, λ e. refl) }, record { limits = refl; form = refl; place = refl }, refl)
+pub value_begins : (p : Point) (n : ℕ) → IsSized p → InValue p [] n → 0 < n → Moves judged.More (RestOf (phases.Value n true) p) p (phases.Value n true) p
+value_begins p n z h some = (
+  z,
+  record { value = []; inside = h; some = some; first_is = (λ e. refl, λ e. refl) },
+  record { limits = refl; form = refl; place = refl },
+  record { forth = λ L fs t r. r; back = λ L fs t r. r },
+)
 
 -- the lines with a byte more of the value that is being made
 pub record IsValuedOn (byte : ℕ) (old new : FieldsView) : Type 0 where
@@ -286,68 +293,65 @@ pub record IsValuedOn (byte : ℕ) (old new : FieldsView) : Type 0 where
   pub free : new.free ≡ old.free
 
 -- the point behind a byte of a value
-abbrev pub valued_point : FieldsView → List ℕ → ℕ → Point → Point
-valued_point fields kept capacity p = record {
-  limits = p.limits;
-  form = p.form;
-  place = p.place;
-  total = p.total;
-  used = p.used;
-  number = p.number;
-  flag = p.flag;
-  name_at = p.name_at;
-  fields = fields;
-  kept = kept;
-  capacity = capacity;
-}
+abbrev pub valued_point : FieldsView → Point → Point
+valued_point fields p = with_lines fields p
 
-pub sized_valued : (p : Point) (byte : ℕ) (value : List ℕ) (m : ℕ) (fields : FieldsView) (kept : List ℕ) (capacity : ℕ) → IsSized p → InValue p value m → IsValuedOn byte p.fields fields
-    → capacity ≡ p.capacity → IsSized (valued_point fields kept capacity p)
-sized_valued p byte value m fields kept capacity z h s ec =
-    let making : fields.making ≡ making_of h.name (value ++ byte ∷ []) = s.making ∙ ap (option_map (value_grown byte)) h.valued.making in
+making_value : (p : Point) (byte : ℕ) (name value : List ℕ) (fields : FieldsView) → p.fields.making ≡ making_of name value → IsValuedOn byte p.fields fields
+    → fields.making ≡ making_of name (value ++ byte ∷ [])
+making_value p byte name value fields e s = s.making ∙ ap (option_map (value_grown byte)) e
+
+pub sized_valued : (p : Point) (byte : ℕ) (value : List ℕ) (m : ℕ) (fields : FieldsView) → IsSized p → InValue p value m → IsValuedOn byte p.fields fields
+    → IsSized (valued_point fields p)
+sized_valued p byte value m fields z h s =
+    let making : fields.making ≡ making_of h.name (value ++ byte ∷ []) = making_value p byte h.name value fields h.valued.making s in
     record {
       part_is = z.part_is;
       part_low = z.part_low;
       most_is = z.most_is;
       most_high = z.most_high;
-      capacity = omega (arith, z.capacity);
       bytes = rw (s.lines, making) (omega (arith, s.spare, rw h.valued.making at z.bytes, length-append value (byte ∷ [])));
       count = rw (s.lines, making) (omega (arith, s.free, rw h.valued.making at z.count));
     }
 
-value_taken : (p : Point) (value : List ℕ) (m byte : ℕ) (fields : FieldsView) (kept : List ℕ) (capacity : ℕ) → IsSized p → InValue p value (suc m) → ValueTakes value (suc m) byte
-    → IsValuedOn byte p.fields fields → kept ≡ p.kept ++ byte ∷ [] → InValue (valued_point fields kept capacity p) (value ++ byte ∷ []) m
-value_taken p value m byte fields kept capacity z h takes s ek =
-    subst (λ (k : List ℕ). InValue (valued_point fields k capacity p) (value ++ byte ∷ []) m) (sym ek)
+value_taken : (p : Point) (value : List ℕ) (m byte : ℕ) (fields : FieldsView) → IsSized p → InValue p value (suc m) → ValueTakes value (suc m) byte
+    → IsValuedOn byte p.fields fields → InValue (valued_point fields p) (value ++ byte ∷ []) m
+value_taken p value m byte fields z h takes s = record {
+  name = h.name;
+  valued = record {
+    making = making_value p byte h.name value fields h.valued.making s;
+    named = h.valued.named;
+    flag = subst (λ (x : List Field). IsTrue p.flag ↔ MayBePseudo p.place x h.name) (sym s.lines) h.valued.flag;
+    behind = subst (λ (x : List Field). IsNameBehind p.place x h.name) (sym s.lines) h.valued.behind;
+    within = h.valued.within;
+    good = subst (AreGood p.limits p.place) (sym s.lines) h.valued.good;
+    bounded = h.valued.bounded;
+    room = h.valued.room;
+    free = omega (arith, s.spare, s.free, h.valued.free);
+  };
+  kind = value_good value m byte h.kind takes;
+  within = subst (IsWithin p.limits.part) (omega (arith, length-append value (byte ∷ []))) h.within;
+  can_end = h.can_end;
+  spare = omega (arith, s.spare, h.spare);
+  number = h.number;
+}
+
+value_taken_steps : (p : Point) (value : List ℕ) (m byte : ℕ) (first next : Bool) (fields : FieldsView) → InValue p value (suc m) → IsValuedOn byte p.fields fields
+    → Steps (RestOf (phases.Value (suc m) first) p) (RestOf (phases.Value m next) (valued_point fields p)) parts.Value byte
+value_taken_steps p value m byte first next fields h s =
+    let more : List ℕ = value ++ byte ∷ [] in
+    let q : Point = valued_point fields p in
+    steps_in (ValueAt p h.name value (suc m)) (ValueAt p h.name more m) (phases.Value (suc m) first) p (phases.Value m next) q parts.Value byte
+    (value_rest_of p h.name value (suc m) first h.valued.making)
+    (rest_in (phases.Value m next) q (line_of h.name more) (spot_of p) (line_is q h.name more (making_value p byte h.name value fields h.valued.making s)) (ap (spot_with p) s.lines))
     (record {
-      name = h.name;
-      valued = record {
-        making = s.making ∙ ap (option_map (value_grown byte)) h.valued.making;
-        named = h.valued.named;
-        flag = subst (λ (x : List Field). IsTrue p.flag ↔ MayBePseudo p.place x h.name) (sym s.lines) h.valued.flag;
-        behind = subst (λ (x : List Field). IsNameBehind p.place x h.name) (sym s.lines) h.valued.behind;
-        within = h.valued.within;
-        good = subst (AreGood p.limits p.place) (sym s.lines) h.valued.good;
-        bounded = h.valued.bounded;
-        room = h.valued.room;
-        free = omega (arith, s.spare, s.free, h.valued.free);
-      };
-      kind = value_good value m byte h.kind takes;
-      within = subst (IsWithin p.limits.part) (omega (arith, length-append value (byte ∷ []))) h.within;
-      can_end = h.can_end;
-      spare = omega (arith, s.spare, h.spare);
-      number = h.number;
-      long = omega (arith, push_long p.kept byte, h.long);
-      tracked = subst (λ (x : List Field). Tracked p.form p.place (p.kept ++ byte ∷ []) (λ L fs t. ValueLeft L (spot_with p x) h.name (value ++ byte ∷ []) m fs t)) (sym s.lines)
-          (tracked_step p.form p.place p.kept (λ L fs t. ValueLeft L (spot_of p) h.name value (suc m) fs t) (λ L fs t. ValueLeft L (spot_of p) h.name (value ++ byte ∷ []) m fs t)
-          h.tracked p.limits parts.Value byte (value_next p value (suc m) z h (omega arith))
-          (λ K fs t l. value_forth K (spot_of p) h.name value m byte fs t l) (λ K fs t l. value_back K (spot_of p) h.name value m byte fs t l));
+      forth = λ K fs t l. value_forth K (spot_of p) h.name value m byte fs t l;
+      back = λ K fs t l. value_back K (spot_of p) h.name value m byte fs t l;
     })
 
 -- a byte that no value has next
-pub value_dead : (p : Point) (value : List ℕ) (missing byte : ℕ) (phase : Phase) → IsSized p → InValue p value missing → 0 < missing → (ValueTakes value missing byte → ⊥)
-    → IsStep judged.Dead p byte phase p
-value_dead p value missing byte phase z h some none = (z, (stops p.limits, stops no_bounds), record { limits = refl; form = refl; place = refl }, refl)
+pub value_dead : (p : Point) (value : List ℕ) (missing byte : ℕ) (first : Bool) (phase : Phase) → IsSized p → InValue p value missing → 0 < missing → (ValueTakes value missing byte → ⊥)
+    → IsStep judged.Dead (phases.Value missing first) p byte phase p
+value_dead p value missing byte first phase z h some none = (z, record { limits = refl; form = refl; place = refl }, stops p.limits, stops no_bounds)
   where
     first_is : (tail : List ℕ) (t behind : Text) → length tail ≡ missing → (parts.Value, byte) ∷ t ≡ mark parts.Value tail ++ behind → IsValue (value ++ tail) → ⊥
     first_is [] t behind long e b = absurd (omega arith)
@@ -358,10 +362,10 @@ value_dead p value missing byte phase z h some none = (z, (stops p.limits, stops
         let head : c ≡ byte = sym (ap (λ (v : Part × ℕ). v.1) pair) in
         none (value_takes value tail missing byte (omega arith) (subst (λ (v : ℕ). IsValue (value ++ (v ∷ tail))) head b))
 
-    stops : (K : Bounds) → Goes K p byte → ⊥
-    stops K =
-        tracked_dead p.form p.place p.kept (λ L fs t. ValueLeft L (spot_of p) h.name value missing fs t) h.tracked p.limits parts.Value byte (value_next p value missing z h some) K
-        (λ fs t l. first_is l.tail t l.behind l.long l.spelled (value_left_is K (spot_of p) h.name value missing fs ((parts.Value, byte) ∷ t) l))
+    stops : (K : Bounds) → HasNone (RestOf (phases.Value missing first) p) K parts.Value byte
+    stops K fs t r =
+        let l : ValueLeft K (spot_of p) h.name value missing fs ((parts.Value, byte) ∷ t) = (value_rest_of p h.name value missing first h.valued.making).forth K fs ((parts.Value, byte) ∷ t) r in
+        first_is l.tail t l.behind l.long l.spelled (value_left_is K (spot_of p) h.name value missing fs ((parts.Value, byte) ∷ t) l)
 
 -- ---- the end of a line
 
@@ -390,10 +394,6 @@ line_ended p value fields z h s = (
     };
     can_end = h.can_end;
     number = h.number;
-    long = omega (arith, h.long);
-    tracked = subst (λ (x : List Field). Tracked p.form p.place p.kept (λ L fs t. LinesLeft L (spot_with p x) fs t)) (sym lines)
-        (tracked_same p.form p.place p.kept (λ L fs t. ValueLeft L (spot_of p) h.name value 0 fs t) (λ L fs t. LinesLeft L (with_line (line_of h.name value) (spot_of p)) fs t) h.tracked
-        (λ K fs t l. value_to_lines K (spot_of p) h.name value fs t l) (λ K fs t l. lines_to_value K (spot_of p) h.name value fs t l));
   },
 )
   where
@@ -406,34 +406,52 @@ line_ended p value fields z h s = (
       part_low = z.part_low;
       most_is = z.most_is;
       most_high = z.most_high;
-      capacity = z.capacity;
       bytes = rw (lines, s.making) (omega (arith, s.spare, rw h.valued.making at z.bytes, lines_room-push p.fields.lines (line_of h.name value)));
       count = rw (lines, s.making) (omega (arith, s.free, rw h.valued.making at z.count, length-append p.fields.lines (line_of h.name value ∷ [])));
     }
 
+pub line_ended_same : (p : Point) (value : List ℕ) (first : Bool) (fields : FieldsView) → InValue p value 0 → IsEndedOn p.fields fields
+    → AreSame (RestOf (phases.Value 0 first) p) (LinesAt (with_lines fields p))
+line_ended_same p value first fields h s =
+    let lines : p.fields.lines ++ line_of h.name value ∷ [] ≡ fields.lines = sym (s.lines ∙ ap (λ (o : Option Field). p.fields.lines ++ option_to_list o) h.valued.making) in
+    subst (λ (x : List Field). AreSame (RestOf (phases.Value 0 first) p) (λ L fs t. LinesLeft L (spot_with p x) fs t)) lines
+    (same_on (RestOf (phases.Value 0 first) p) (ValueAt p h.name value 0) (λ L fs t. LinesLeft L (with_line (line_of h.name value) (spot_of p)) fs t)
+    (value_rest_of p h.name value 0 first h.valued.making)
+    (record {
+      forth = λ K fs t l. value_to_lines K (spot_of p) h.name value fs t l;
+      back = λ K fs t l. lines_to_value K (spot_of p) h.name value fs t l;
+    }))
+
 -- ---- for the code, which counts down
 
-pub name_step : (p : Point) (missing byte : ℕ) (flag : Bool) (fields : FieldsView) (kept : List ℕ) (capacity : ℕ) → byte < 256 → IsSized p → (h : NameState p missing) → 1 < missing
-    → NameTakes p.flag h.name missing byte → flag ≡ flag_behind p.flag h.name byte → IsNamedOn byte p.fields fields → kept ≡ p.kept ++ byte ∷ [] → capacity ≡ p.capacity
-    → IsStep judged.More p byte (phases.Name (missing - 1)) (named_point flag fields kept capacity p)
-name_step p zero byte flag fields kept capacity small z h some takes ef s ek ec = absurd (omega arith)
-name_step p (suc m) byte flag fields kept capacity small z h some takes ef s ek ec =
-    subst (λ (x : ℕ). IsStep judged.More p byte (phases.Name x) (named_point flag fields kept capacity p)) (let e : m ≡ suc m - 1 = omega arith in e)
-    (name_more p m byte flag fields kept capacity small z h (omega arith) takes ef s ek ec)
+pub name_step : (p : Point) (missing byte : ℕ) (flag : Bool) (fields : FieldsView) → byte < 256 → IsSized p → (h : NameState p missing) → 1 < missing
+    → NameTakes p.flag h.name missing byte → flag ≡ flag_behind p.flag h.name byte → IsNamedOn byte p.fields fields
+    → IsStep judged.More (phases.Name missing) p byte (phases.Name (missing - 1)) (named_point flag fields p)
+name_step p zero byte flag fields small z h some takes ef s = absurd (omega arith)
+name_step p (suc m) byte flag fields small z h some takes ef s =
+    subst (λ (x : ℕ). IsStep judged.More (phases.Name (suc m)) p byte (phases.Name x) (named_point flag fields p)) (let e : m ≡ suc m - 1 = omega arith in e)
+    (name_more p m byte flag fields small z h (omega arith) takes ef s)
 
-pub name_end : (p : Point) (missing byte : ℕ) (flag : Bool) (fields : FieldsView) (kept : List ℕ) (capacity : ℕ) → byte < 256 → IsSized p → (h : NameState p missing) → missing ≤ 1
-    → NameTakes p.flag h.name missing byte → flag ≡ flag_behind p.flag h.name byte → IsNamedOn byte p.fields fields → kept ≡ p.kept ++ byte ∷ [] → capacity ≡ p.capacity
-    → IsStep judged.More p byte phases.ValueLength (named_point flag fields kept capacity p)
-name_end p zero byte flag fields kept capacity small z h one takes ef s ek ec = absurd (omega (arith, h.some))
-name_end p (suc zero) byte flag fields kept capacity small z h one takes ef s ek ec = name_last p byte flag fields kept capacity small z h takes ef s ek ec
-name_end p (suc (suc m)) byte flag fields kept capacity small z h one takes ef s ek ec = absurd (omega arith)
+pub name_end : (p : Point) (missing byte : ℕ) (flag : Bool) (fields : FieldsView) → byte < 256 → IsSized p → (h : NameState p missing) → missing ≤ 1
+    → NameTakes p.flag h.name missing byte → flag ≡ flag_behind p.flag h.name byte → IsNamedOn byte p.fields fields
+    → IsStep judged.More (phases.Name missing) p byte phases.ValueLength (named_point flag fields p)
+name_end p zero byte flag fields small z h one takes ef s = absurd (omega (arith, h.some))
+name_end p (suc zero) byte flag fields small z h one takes ef s = name_last p byte flag fields small z h takes ef s
+name_end p (suc (suc m)) byte flag fields small z h one takes ef s = absurd (omega arith)
 
-pub value_step : (p : Point) (value : List ℕ) (missing byte : ℕ) (fields : FieldsView) (kept : List ℕ) (capacity : ℕ) → IsSized p → InValue p value missing → 0 < missing
-    → ValueTakes value missing byte → IsValuedOn byte p.fields fields → kept ≡ p.kept ++ byte ∷ [] → InValue (valued_point fields kept capacity p) (value ++ byte ∷ []) (missing - 1)
-value_step p value zero byte fields kept capacity z h some takes s ek = absurd (omega arith)
-value_step p value (suc m) byte fields kept capacity z h some takes s ek =
-    subst (λ (x : ℕ). InValue (valued_point fields kept capacity p) (value ++ byte ∷ []) x) (let e : m ≡ suc m - 1 = omega arith in e)
-    (value_taken p value m byte fields kept capacity z h takes s ek)
+pub value_step : (p : Point) (value : List ℕ) (missing byte : ℕ) (fields : FieldsView) → IsSized p → InValue p value missing → 0 < missing
+    → ValueTakes value missing byte → IsValuedOn byte p.fields fields → InValue (valued_point fields p) (value ++ byte ∷ []) (missing - 1)
+value_step p value zero byte fields z h some takes s = absurd (omega arith)
+value_step p value (suc m) byte fields z h some takes s =
+    subst (λ (x : ℕ). InValue (valued_point fields p) (value ++ byte ∷ []) x) (let e : m ≡ suc m - 1 = omega arith in e)
+    (value_taken p value m byte fields z h takes s)
+
+pub value_steps : (p : Point) (value : List ℕ) (missing byte : ℕ) (first next : Bool) (fields : FieldsView) → InValue p value missing → 0 < missing → IsValuedOn byte p.fields fields
+    → Steps (RestOf (phases.Value missing first) p) (RestOf (phases.Value (missing - 1) next) (valued_point fields p)) parts.Value byte
+value_steps p value zero byte first next fields h some s = absurd (omega arith)
+value_steps p value (suc m) byte first next fields h some s =
+    subst (λ (x : ℕ). Steps (RestOf (phases.Value (suc m) first) p) (RestOf (phases.Value x next) (valued_point fields p)) parts.Value byte) (let e : m ≡ suc m - 1 = omega arith in e)
+    (value_taken_steps p value m byte first next fields h s)
 
 pub takes_from : (value : List ℕ) (first : Bool) (missing byte : ℕ) → IsTrue first ↔ (value ≡ []) → IsValueByte first missing byte → ValueTakes value missing byte
 takes_from value first missing byte f b = record { is = b.0; first = λ e. b.1 (f.1 e); last = b.2 }

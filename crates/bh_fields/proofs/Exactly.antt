@@ -1,124 +1,88 @@
--- Each answer comes exactly where it is right: two right answers are one.
-use Rattle.std.proofs.Common.{◌≡◌, ◌<◌, ◌≤◌, ◌+◌, ◌↔◌, ℕ, List, [], ◌∷◌, ◌++◌, length, take, get_or, sym, ap, ap₂, subst, ◌∙◌, refl, arith}
+-- What a reader of sections answers for a piece, byte for byte.
+use Rattle.std.proofs.Common.{◌≡◌, ◌<◌, ◌≤◌, ◌+◌, arith, ℕ, List, [], ◌∷◌, length, take, get_or, subst, ◌∙◌}
 use Rattle.bh_spec.specs.declared.Part.{Part}
-use Rattle.bh_spec.specs.declared.Form.{Form}
+use Rattle.bh_spec.specs.declared.PieceStep.{PieceStep}
+use Rattle.bh_spec.specs.declared.PieceStep.TheVariants.{Need, Whole, Dead, Limit}
+use Rattle.bh_spec.specs.declared.Judged.{Judged}
+use Rattle.bh_spec.specs.declared.Judged.TheVariants as judged
 use Rattle.bh_spec.specs.Bounds.{Bounds, no_bounds}
-use Rattle.bh_spec.specs.Pieces.{IsText, CanBecome, IsNext, IsRefused}
-use Rattle.bh_spec.proofs.Pieces.{IsOnce, next_taken, all_taken, next_unfinished, refused_at, whole_whole, whole_refused, on_refused, refused_refused, refused_part, dead_limit}
-use Rattle.bh_model.specs.declared.field.Place.{Place}
-use Rattle.bh_fields.specs.declared.reader.SectionStep.{SectionStep}
-use Rattle.bh_fields.specs.declared.reader.SectionStep.TheVariants.{Need, Whole, Dead, Limit}
-use Rattle.bh_fields.specs.declared.walk.Judged.TheVariants as judged
-use Rattle.bh_fields.specs.Sections.{SectionOf, IsSectionText}
-use Rattle.bh_fields.specs.Views.{SectionView, reading, whole, GoesOnWith, Takes}
-use Rattle.bh_fields.specs.Readers.{IsWanted, IsUnlimited, Shows, IsBehind}
-use Rattle.bh_fields.proofs.Tracking.{sections_once}
+use Rattle.bh_spec.specs.Pieces.{SomeOf, IsNext}
+use Rattle.bh_spec.specs.Readings.{reading, Leads as ReaderLeads, Takes as ReaderTakes}
+use Rattle.bh_spec.proofs.Pieces.{IsOnce}
+use Rattle.bh_spec.proofs.Residuals.{residual_here}
+use Rattle.bh_spec.proofs.Readings.{Answers, answers, one_more, whole_piece, need_shows, whole_shows, dead_shows, limit_shows}
+use Rattle.bh_fields.specs.Middle.{SectionView, Rest}
+use Rattle.bh_fields.specs.Bytewise.{IsLeft}
+use Rattle.bh_fields.specs.Views.{Leads, Takes}
+use Rattle.bh_fields.specs.Readers.{IsWanted, IsBehind}
+use Rattle.bh_fields.proofs.Tracking.{left_once}
 
-once_for : (v : SectionView) → IsOnce (IsWanted v)
-once_for v = sections_once v.limits v.limits v.form v.place
+pub once_for : (v : SectionView) → IsLeft v.form v.place (λ L. Rest L v) → IsOnce (IsWanted v)
+once_for v h = left_once v.form v.place (λ L. Rest L v) h v.limits
 
-same_refusal : (v : SectionView) (piece : List ℕ) (o u : ℕ) (p q : Part) → IsRefused (IsWanted v) v.bytes piece o p → IsRefused (IsWanted v) v.bytes piece u q → (o ≡ u) × (p ≡ q)
-same_refusal v piece o u p q a b =
-    let same = refused_refused (IsWanted v) v.bytes piece o u p q a b in
-    (same, refused_part (IsWanted v) (once_for v) v.bytes piece o u p q same a b)
-
-once : (v : SectionView) (piece : List ℕ) (s t : SectionStep) → Shows v piece s → Shows v piece t → s ≡ t
-once v piece Need Need a b = refl
-once v piece Need (Whole k) a b = absurd (a.unfinished k b)
-once v piece Need (Dead o p) a b = absurd (on_refused (IsWanted v) v.bytes piece o p a b.refused)
-once v piece Need (Limit o p) a b = absurd (on_refused (IsWanted v) v.bytes piece o p a b.refused)
-once v piece (Whole k) Need a b = absurd (b.unfinished k a)
-once v piece (Whole k) (Whole j) a b = ap Whole (whole_whole (IsWanted v) (once_for v) v.bytes piece k j a b)
-once v piece (Whole k) (Dead o p) a b = absurd (whole_refused (IsWanted v) (once_for v) v.bytes piece k o p a b.refused)
-once v piece (Whole k) (Limit o p) a b = absurd (whole_refused (IsWanted v) (once_for v) v.bytes piece k o p a b.refused)
-once v piece (Dead o p) Need a b = absurd (on_refused (IsWanted v) v.bytes piece o p b a.refused)
-once v piece (Dead o p) (Whole k) a b = absurd (whole_refused (IsWanted v) (once_for v) v.bytes piece k o p b a.refused)
-once v piece (Dead o p) (Dead u q) a b = let e = same_refusal v piece o u p q a.refused b.refused in ap₂ Dead e.0 e.1
-once v piece (Dead o p) (Limit u q) a b = absurd (dead_limit (IsWanted v) (IsUnlimited v) v.bytes piece o u p q a b)
-once v piece (Limit o p) Need a b = absurd (on_refused (IsWanted v) v.bytes piece o p b a.refused)
-once v piece (Limit o p) (Whole k) a b = absurd (whole_refused (IsWanted v) (once_for v) v.bytes piece k o p b a.refused)
-once v piece (Limit o p) (Dead u q) a b = absurd (dead_limit (IsWanted v) (IsUnlimited v) v.bytes piece u o q p b a)
-once v piece (Limit o p) (Limit u q) a b = let e = same_refusal v piece o u p q a.refused b.refused in ap₂ Limit e.0 e.1
-
--- a right answer is given exactly where it is right
-pub exactly : (v : SectionView) (piece : List ℕ) (s t : SectionStep) → Shows v piece s → (s ≡ t) ↔ Shows v piece t
-exactly v piece s t h = (λ e. subst (Shows v piece) e h, λ k. once v piece s t h k)
-
--- ---- for the loop over a piece
-
--- the reader stands so many bytes into the piece
-pub record IsOn (v w : SectionView) (piece : List ℕ) (offset : ℕ) : Type 0 where
+-- the reader stands so many bytes into the piece, and the next byte has this part
+pub record IsOn (v w : SectionView) (piece : List ℕ) (offset : ℕ) (part : Part) : Type 0 where
   pub limits : w.limits ≡ v.limits
   pub form : w.form ≡ v.form
   pub place : w.place ≡ v.place
-  pub bytes : w.bytes ≡ v.bytes ++ take offset piece
+  pub stage : w.stage ≡ reading
+  pub leads : Leads v (take offset piece) w
+  pub next : IsNext (IsWanted w) [] part
 
--- both read the same sections, within any limits
-section_at : (K : Bounds) (v w : SectionView) (piece : List ℕ) (o : ℕ) → IsOn v w piece o → (bytes : List ℕ)
-    → CanBecome (IsSectionText K v.form v.place) bytes → CanBecome (IsSectionText K w.form w.place) bytes
-section_at K v w piece o on bytes b =
-    subst (λ (f : Form). CanBecome (IsSectionText K f w.place) bytes) (sym on.form)
-    (subst (λ (p : Place). CanBecome (IsSectionText K v.form p) bytes) (sym on.place) b)
+pub leads_here : (v : SectionView) → Leads v [] v
+leads_here v L = residual_here (Rest L v)
 
-section_from : (K : Bounds) (v w : SectionView) (piece : List ℕ) (o : ℕ) → IsOn v w piece o → (bytes : List ℕ)
-    → CanBecome (IsSectionText K w.form w.place) bytes → CanBecome (IsSectionText K v.form v.place) bytes
-section_from K v w piece o on bytes b =
-    subst (λ (f : Form). CanBecome (IsSectionText K f v.place) bytes) on.form
-    (subst (λ (p : Place). CanBecome (IsSectionText K w.form p) bytes) on.place b)
+pub leads_on : (v w u : SectionView) (piece : List ℕ) (o : ℕ) → o < length piece → Leads v (take o piece) w → Leads w (get_or piece o 0 ∷ []) u → Leads v (take (o + 1) piece) u
+leads_on v w u piece o h a b L = one_more (Rest L v) (Rest L w) (Rest L u) piece o h (a L) (b L)
 
-refused_here : (v w : SectionView) (piece : List ℕ) (o : ℕ) (part : Part) → o < length piece → IsOn v w piece o → IsNext (IsWanted v) (v.bytes ++ take o piece) part
-    → (GoesOnWith w.limits w (get_or piece o 0) → ⊥) → IsRefused (IsWanted v) v.bytes piece o part
-refused_here v w piece o part h on next dead =
-    refused_at (IsWanted v) (v.bytes ++ take o piece) (w.bytes ++ get_or piece o 0 ∷ []) v.bytes piece o part refl (next_taken w.bytes v.bytes piece o on.bytes h) h next
-    (λ b. dead (subst (λ (L : Bounds). CanBecome (IsSectionText L w.form w.place) (w.bytes ++ get_or piece o 0 ∷ [])) (sym on.limits)
-    (section_at v.limits v w piece o on (w.bytes ++ get_or piece o 0 ∷ []) b)))
+-- within the reader's limits and without
+both : (L : Bounds) (v w : SectionView) (bytes : List ℕ) → Leads v bytes w → ReaderLeads (Rest L v) (Rest no_bounds v) (Rest L w) (Rest no_bounds w) bytes
+both L v w bytes h = record { within = h L; anyway = h no_bounds }
 
-pub limit_shows : (v w u : SectionView) (piece : List ℕ) (o : ℕ) (part : Part) → o < length piece → IsOn v w piece o → IsNext (IsWanted v) (v.bytes ++ take o piece) part
-    → Takes judged.Limit w (get_or piece o 0) u → Shows v piece (Limit o part)
-limit_shows v w u piece o part h on next t = record {
-  refused = refused_here v w piece o part h on next t.3;
-  anyway = section_from no_bounds v w piece o on (v.bytes ++ take (o + 1) piece) (subst (CanBecome (IsUnlimited w)) (next_taken w.bytes v.bytes piece o on.bytes h) t.4);
-}
+takes_here : (j : Judged) (v w : SectionView) (byte : ℕ) → Takes j v byte w → ReaderTakes (Rest v.limits v) (Rest no_bounds v) (Rest v.limits w) (Rest no_bounds w) byte j w.stage w.lines
+takes_here judged.More v w byte t = (t.1, both v.limits v w (byte ∷ []) t.2)
+takes_here judged.Whole v w byte t = (t.1, both v.limits v w (byte ∷ []) t.2, subst (λ (L : Bounds). Rest L w w.lines []) t.0.limits t.3)
+takes_here judged.Limit v w byte t = (t.1, t.2, t.3)
+takes_here judged.Dead v w byte t = (t.1, t.2, t.3)
 
-pub dead_shows : (v w u : SectionView) (piece : List ℕ) (o : ℕ) (part : Part) → o < length piece → IsOn v w piece o → IsNext (IsWanted v) (v.bytes ++ take o piece) part
-    → Takes judged.Dead w (get_or piece o 0) u → Shows v piece (Dead o part)
-dead_shows v w u piece o part h on next t = record {
-  refused = refused_here v w piece o part h on next t.3;
-  anyway = λ b. t.4 (subst (CanBecome (IsUnlimited w)) (sym (next_taken w.bytes v.bytes piece o on.bytes h)) (section_at no_bounds v w piece o on (v.bytes ++ take (o + 1) piece) b));
-}
+takes_at : (L : Bounds) (j : Judged) (v w : SectionView) (byte : ℕ) → v.limits ≡ L → Takes j v byte w → ReaderTakes (Rest L v) (Rest no_bounds v) (Rest L w) (Rest no_bounds w) byte j w.stage w.lines
+takes_at L j v w byte e t = subst (λ (K : Bounds). ReaderTakes (Rest K v) (Rest no_bounds v) (Rest K w) (Rest no_bounds w) byte j w.stage w.lines) e (takes_here j v w byte t)
 
-pub whole_shows : (v w u : SectionView) (piece : List ℕ) (o : ℕ) → o < length piece → IsOn v w piece o → Takes judged.Whole w (get_or piece o 0) u → Shows v piece (Whole (o + 1))
-whole_shows v w u piece o h on t =
-    let is : IsText (SectionOf v.limits v.form v.place u.lines) (v.bytes ++ take (o + 1) piece) =
-    subst (λ (L : Bounds). IsText (SectionOf L v.form v.place u.lines) (v.bytes ++ take (o + 1) piece)) (t.0.limits ∙ on.limits)
-    (subst (λ (f : Form). IsText (SectionOf u.limits f v.place u.lines) (v.bytes ++ take (o + 1) piece)) (t.0.form ∙ on.form)
-    (subst (λ (p : Place). IsText (SectionOf u.limits u.form p u.lines) (v.bytes ++ take (o + 1) piece)) (t.0.place ∙ on.place)
-    (subst (IsText (SectionOf u.limits u.form u.place u.lines)) (t.1 ∙ next_taken w.bytes v.bytes piece o on.bytes h) t.3))) in
-    record { within = omega arith; whole = record { text = is.text; spelled = (u.lines, is.spelled); same = is.same } }
+next_at : (v w : SectionView) (piece : List ℕ) (o : ℕ) (part : Part) → IsOn v w piece o part → IsNext (SomeOf (Rest v.limits w)) [] part
+next_at v w piece o part on = subst (λ (L : Bounds). IsNext (SomeOf (Rest L w)) [] part) on.limits on.next
 
-pub need_shows : (v : SectionView) (piece : List ℕ) (o : ℕ) (part : Part) → o ≤ length piece → length piece ≤ o → IsNext (IsWanted v) (v.bytes ++ take o piece) part → Shows v piece Need
-need_shows v piece o part g h next =
-    next_unfinished (IsWanted v) (once_for v) v.bytes piece part
-    (subst (λ (x : List ℕ). IsNext (IsWanted v) x part) (all_taken (v.bytes ++ take o piece) v.bytes piece o refl g h) next)
+-- all clauses of `push`
+abbrev pub Pushed : SectionView → List ℕ → PieceStep → SectionView → Type 0
+Pushed v piece step w = Answers (Rest v.limits v) (Rest no_bounds v) piece step (IsBehind v piece step w)
 
--- ---- the reader behind the piece
+pub need_pushed : (v w : SectionView) (piece : List ℕ) (o : ℕ) (part : Part) → IsOnce (IsWanted v) → o ≤ length piece → length piece ≤ o → IsOn v w piece o part → Pushed v piece Need w
+need_pushed v w piece o part one g h on =
+    let leads : Leads v piece w = λ L. whole_piece (Rest L v) (Rest L w) piece o g h (on.leads L) in
+    answers (Rest v.limits v) (Rest no_bounds v) piece Need (IsBehind v piece Need w) one
+    (need_shows (Rest v.limits v) (Rest no_bounds v) (Rest v.limits w) piece part one (leads v.limits) (next_at v w piece o part on))
+    (record { limits = on.limits; form = on.form; place = on.place; stage = on.stage; leads = leads })
 
-pub whole_behind : (v w u : SectionView) (piece : List ℕ) (o : ℕ) → o < length piece → IsOn v w piece o → Takes judged.Whole w (get_or piece o 0) u → IsBehind v piece (Whole (o + 1)) u
-whole_behind v w u piece o h on t = record {
-  limits = t.0.limits ∙ on.limits;
-  form = t.0.form ∙ on.form;
-  place = t.0.place ∙ on.place;
-  bytes = t.1 ∙ next_taken w.bytes v.bytes piece o on.bytes h;
-  stage = t.2;
-  lines = λ e. t.3;
-}
+pub whole_pushed : (v w u : SectionView) (piece : List ℕ) (o : ℕ) (part : Part) → IsOnce (IsWanted v) → o < length piece → IsOn v w piece o part
+    → Takes judged.Whole w (get_or piece o 0) u → Pushed v piece (Whole (o + 1)) u
+whole_pushed v w u piece o part one h on t =
+    let leads = leads_on v w u piece o h on.leads t.2 in
+    answers (Rest v.limits v) (Rest no_bounds v) piece (Whole (o + 1)) (IsBehind v piece (Whole (o + 1)) u) one
+    (whole_shows (Rest v.limits v) (Rest no_bounds v) (Rest v.limits u) piece (o + 1) u.lines (omega arith) (leads v.limits)
+    (subst (λ (L : Bounds). Rest L u u.lines []) (t.0.limits ∙ on.limits) t.3))
+    (record { limits = t.0.limits ∙ on.limits; form = t.0.form ∙ on.form; place = t.0.place ∙ on.place; stage = t.1; leads = (leads, t.3) })
 
-pub need_behind : (v w : SectionView) (piece : List ℕ) (o : ℕ) → o ≤ length piece → length piece ≤ o → IsOn v w piece o → w.stage ≡ reading → IsBehind v piece Need w
-need_behind v w piece o g h on stage = record {
-  limits = on.limits;
-  form = on.form;
-  place = on.place;
-  bytes = all_taken w.bytes v.bytes piece o on.bytes g h;
-  stage = stage;
-  lines = λ e. absurd (let both : reading ≡ whole = sym stage ∙ e in cc);
-}
+pub limit_pushed : (v w u : SectionView) (piece : List ℕ) (o : ℕ) (part : Part) → IsOnce (IsWanted v) → o < length piece → IsOn v w piece o part
+    → Takes judged.Limit w (get_or piece o 0) u → Pushed v piece (Limit o part) u
+limit_pushed v w u piece o part one h on t =
+    answers (Rest v.limits v) (Rest no_bounds v) piece (Limit o part) (IsBehind v piece (Limit o part) u) one
+    (limit_shows (Rest v.limits v) (Rest no_bounds v) (Rest v.limits w) (Rest no_bounds w) (Rest v.limits u) (Rest no_bounds u) piece o part u.stage u.lines h
+    (both v.limits v w (take o piece) on.leads) (next_at v w piece o part on) (takes_at v.limits judged.Limit w u (get_or piece o 0) on.limits t))
+    (record { limits = t.0.limits ∙ on.limits; form = t.0.form ∙ on.form; place = t.0.place ∙ on.place; stage = t.1; leads = tt })
+
+pub dead_pushed : (v w u : SectionView) (piece : List ℕ) (o : ℕ) (part : Part) → IsOnce (IsWanted v) → o < length piece → IsOn v w piece o part
+    → Takes judged.Dead w (get_or piece o 0) u → Pushed v piece (Dead o part) u
+dead_pushed v w u piece o part one h on t =
+    answers (Rest v.limits v) (Rest no_bounds v) piece (Dead o part) (IsBehind v piece (Dead o part) u) one
+    (dead_shows (Rest v.limits v) (Rest no_bounds v) (Rest v.limits w) (Rest no_bounds w) (Rest v.limits u) (Rest no_bounds u) piece o part u.stage u.lines h
+    (both v.limits v w (take o piece) on.leads) (next_at v w piece o part on) (takes_at v.limits judged.Dead w u (get_or piece o 0) on.limits t))
+    (record { limits = t.0.limits ∙ on.limits; form = t.0.form ∙ on.form; place = t.0.place ∙ on.place; stage = t.1; leads = tt })

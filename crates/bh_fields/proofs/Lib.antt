@@ -1,4 +1,3 @@
-pub mod Numbers
 pub mod Tracking
 pub mod Strings
 pub mod Lines
@@ -12,3 +11,4 @@ pub mod ControlNames
 pub mod Beginning
 pub mod Exactly
 pub mod NextBytes
+pub mod History

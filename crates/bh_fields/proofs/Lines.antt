@@ -14,9 +14,10 @@ use Rattle.bh_spec.specs.Bytes.{lower}
 use Rattle.bh_spec.specs.Messages.{Field}
 use Rattle.bh_spec.specs.Texts.{Text, mark, IsNumber}
 use Rattle.bh_spec.specs.Sections.{IsLine}
-use Rattle.bh_spec.proofs.Sections.{IsNamed}
+use Rattle.bh_spec.proofs.Sections.{IsNamed, line_nonempty}
 use Rattle.bh_spec.proofs.Widths.{length-vi}
-use Rattle.bh_fields.specs.Rests.{Spot, further, with_line, NumberThen, AreGood, HasMore, Ends, LinesLeft, IsEnded, ValueLeft, ValueBody, NameLeft, NameBody}
+use Rattle.bh_varint.specs.Numbers.{NumberThen}
+use Rattle.bh_fields.specs.Rests.{Spot, further, with_line, AreGood, HasMore, LinesEnd, LinesLeft, IsAtEnd, ValueLeft, ValueBody, NameLeft, NameBody}
 use Rattle.bh_spec.proofs.Marks.{length-mark}
 use Rattle.bh_fields.proofs.Strings.{line_of}
 use Rattle.bh_fields.proofs.Tracking.{lines_named}
@@ -27,9 +28,9 @@ record LineFirst (L : Bounds) (form : Form) (total used : ℕ) (line : Field) (m
   behind : Text
   is : IsLine line text
   joined : t ≡ text ++ behind
-  ends : Ends L form total (used + length text) more behind
+  ends : LinesEnd L form total (used + length text) more behind
 
-line_first : (L : Bounds) (form : Form) (total used : ℕ) (line : Field) (more : List Field) (t : Text) → Ends L form total used (line ∷ more) t
+line_first : (L : Bounds) (form : Form) (total used : ℕ) (line : Field) (more : List Field) (t : Text) → LinesEnd L form total used (line ∷ more) t
     → LineFirst L form total used line more t
 line_first L Known total used line more t h = record {
   text = h.0.0;
@@ -49,7 +50,7 @@ line_first L Indeterminate total used line more t h =
     }
 
 line_before : (L : Bounds) (form : Form) (total used : ℕ) (line : Field) (more : List Field) (x y : Text) → IsLine line x
-    → Ends L form total (used + length x) more y → Ends L form total used (line ∷ more) (x ++ y)
+    → LinesEnd L form total (used + length x) more y → LinesEnd L form total used (line ∷ more) (x ++ y)
 line_before L Known total used line more x y is h = ((x, y, is, h.0, refl), omega (arith, h.1, length-append x y), h.2)
 line_before L Indeterminate total used line more x y is h = (
   x ++ h.0,
@@ -98,8 +99,8 @@ line_to_number L s fields line more t whole good f named =
     let s2 = further (l + length v) s1 in
     let named_so : Field = record { name = lower name; value = v } in
     let same : line ≡ named_so = ap (λ (x : List ℕ). let z : Field = record { name = x; value = v } in z) (sym lowered) in
-    let ends : Ends L s.form s.total s2.used more f.behind =
-    subst (λ (u : ℕ). Ends L s.form s.total u more f.behind) (omega (arith, long)) f.ends in
+    let ends : LinesEnd L s.form s.total s2.used more f.behind =
+    subst (λ (u : ℕ). LinesEnd L s.form s.total u more f.behind) (omega (arith, long)) f.ends in
     let lines : LinesLeft L (with_line named_so s2) fields f.behind =
     record {
       more = more;
@@ -146,7 +147,7 @@ line_to_number L s fields line more t whole good f named =
 pub lines_to_number : (L : Bounds) (s : Spot) (fields : List Field) (t : Text) → HasMore s.form s.total s.used → LinesLeft L s fields t → NumberThen parts.NameLength (NameBody L s fields) t
 lines_to_number L s fields t has h = at h.more h.whole h.ends
   where
-    none : (form : Form) → s.form ≡ form → HasMore form s.total s.used → fields ≡ s.done → Ends L form s.total s.used [] t → NumberThen parts.NameLength (NameBody L s fields) t
+    none : (form : Form) → s.form ≡ form → HasMore form s.total s.used → fields ≡ s.done → LinesEnd L form s.total s.used [] t → NumberThen parts.NameLength (NameBody L s fields) t
     none Known f more w e = absurd (omega (arith, e.1, ap length e.0))
     none Indeterminate f more w e = record {
       number = 0;
@@ -166,7 +167,7 @@ lines_to_number L s fields t has h = at h.more h.whole h.ends
       );
     }
 
-    at : (more : List Field) → fields ≡ s.done ++ more → Ends L s.form s.total s.used more t → NumberThen parts.NameLength (NameBody L s fields) t
+    at : (more : List Field) → fields ≡ s.done ++ more → LinesEnd L s.form s.total s.used more t → NumberThen parts.NameLength (NameBody L s fields) t
     at [] w e = none s.form refl has (w ∙ append-nil s.done) e
     at (line ∷ more) w e =
         line_to_number L s fields line more t w h.good (line_first L s.form s.total s.used line more t e)
@@ -183,7 +184,7 @@ lines_to_number L s fields t has h = at h.more h.whole h.ends
 pub number_to_lines : (L : Bounds) (s : Spot) (fields : List Field) (t : Text) → NumberThen parts.NameLength (NameBody L s fields) t → LinesLeft L s fields t
 number_to_lines L s fields t h = at h.body
   where
-    ended : (form : Form) → form ≡ Indeterminate → (w : Width) → 0 < limit_of w → IsWithin L.section s.used → Ends L form s.total s.used [] (mark parts.NameLength (vi 0 w))
+    ended : (form : Form) → form ≡ Indeterminate → (w : Width) → 0 < limit_of w → IsWithin L.section s.used → LinesEnd L form s.total s.used [] (mark parts.NameLength (vi 0 w))
     ended Known e w f i = absurd cc
     ended Indeterminate e w f i =
         ([], mark parts.NameLength (vi 0 w), refl, record { width = w; fits = f; spelled = refl }, refl, subst (IsWithin L.section) (omega arith) i)
@@ -193,7 +194,7 @@ number_to_lines L s fields t h = at h.body
       more = [];
       whole = e.2.whole ∙ sym (append-nil s.done);
       good = e.2.good;
-      ends = subst (Ends L s.form s.total s.used [])
+      ends = subst (LinesEnd L s.form s.total s.used [])
           (ap (λ (n : ℕ). mark parts.NameLength (vi n h.width)) (sym e.1) ∙ sym (append-nil (mark parts.NameLength (vi h.number h.width)))
           ∙ ap (λ (x : Text). mark parts.NameLength (vi h.number h.width) ++ x) (sym e.2.nothing) ∙ sym h.spelled)
           (ended s.form e.0 h.width (subst (λ (n : ℕ). n < limit_of h.width) e.1 h.fits) e.2.within);
@@ -233,21 +234,38 @@ number_to_lines L s fields t h = at h.body
         ∙ ap (λ (z : Text). x1 ++ z) (n.spelled ∙ ap (λ (z : Text). x2 ++ z) (v.spelled ∙ ap (λ (z : Text). y1 ++ z) b.spelled ∙ sym (append_assoc y1 y2 b.behind)))
         ∙ sym (append_assoc x1 x2 ((y1 ++ y2) ++ b.behind))
         ∙ sym (append_assoc (x1 ++ x2) (y1 ++ y2) b.behind) in
-        let ends : Ends L s.form s.total (s.used + length x) l.more b.behind =
-        subst (λ (u : ℕ). Ends L s.form s.total u l.more b.behind) (omega (arith, long)) l.ends in
+        let ends : LinesEnd L s.form s.total (s.used + length x) l.more b.behind =
+        subst (λ (u : ℕ). LinesEnd L s.form s.total u l.more b.behind) (omega (arith, long)) l.ends in
         record {
           more = line ∷ l.more;
           whole = l.whole ∙ append_assoc s.done (line ∷ []) l.more;
           good = l.good;
-          ends = subst (Ends L s.form s.total s.used (line ∷ l.more)) (sym joined) (line_before L s.form s.total s.used line l.more x b.behind is ends);
+          ends = subst (LinesEnd L s.form s.total s.used (line ∷ l.more)) (sym joined) (line_before L s.form s.total s.used line l.more x b.behind is ends);
         }
 
-pub end_to_lines : (L : Bounds) (s : Spot) (fields : List Field) (t : Text) → s.form ≡ Known → s.used ≡ s.total → IsEnded L s fields t → LinesLeft L s fields t
+-- at the end of a known length nothing but the end may follow
+nothing_in : (t : Text) → length t ≡ 0 → t ≡ []
+nothing_in [] e = refl
+nothing_in (b ∷ t) e = absurd (omega arith)
+
+pub lines_to_end : (L : Bounds) (s : Spot) (fields : List Field) (t : Text) → s.form ≡ Known → s.used ≡ s.total → LinesLeft L s fields t → IsAtEnd L s fields t
+lines_to_end L s fields t known full h = at h.more h.whole (subst (λ (f : Form). LinesEnd L f s.total s.used h.more t) known h.ends)
+  where
+    at : (more : List Field) → fields ≡ s.done ++ more → LinesEnd L Known s.total s.used more t → IsAtEnd L s fields t
+    at [] e g = record {
+      nothing = nothing_in t (omega (arith, g.1, full));
+      whole = e ∙ append-nil s.done;
+      good = h.good;
+      within = subst (IsWithin L.section) (sym full) g.2;
+    }
+    at (line ∷ more) e g = absurd (omega (arith, g.1, full, line_nonempty line g.0.0 g.0.2, ap length g.0.4, length-append g.0.0 g.0.1))
+
+pub end_to_lines : (L : Bounds) (s : Spot) (fields : List Field) (t : Text) → s.form ≡ Known → s.used ≡ s.total → IsAtEnd L s fields t → LinesLeft L s fields t
 end_to_lines L s fields t known full h = record {
   more = [];
   whole = h.whole ∙ sym (append-nil s.done);
   good = h.good;
-  ends = subst (λ (f : Form). Ends L f s.total s.used [] t) (sym known)
+  ends = subst (λ (f : Form). LinesEnd L f s.total s.used [] t) (sym known)
       (h.nothing, omega (arith, full, ap length h.nothing), subst (IsWithin L.section) full h.within);
 }
 

@@ -1,24 +1,24 @@
 -- Sections of a place have one form, and a reader that knows what may follow knows what a byte makes of it.
-use Rattle.std.proofs.Common.{◌≡◌, ℕ, List, [], ◌∷◌, ◌++◌, All, sym, ap, ap₂, subst, ◌∙◌, append_assoc, append-nil}
-use Rattle.std.proofs.lemmas.List.{append_cancel_left}
+use Rattle.std.proofs.Common.{◌≡◌, ℕ, List, [], ◌∷◌, ◌++◌, All, refl, sym, subst, ◌∙◌}
 use Rattle.bh_spec.specs.declared.Form.{Form}
 use Rattle.bh_spec.specs.declared.Part.{Part}
 use Rattle.bh_spec.specs.Bounds.{Bounds}
 use Rattle.bh_spec.specs.Messages.{Field}
 use Rattle.bh_spec.specs.Texts.{Text, bytes_of}
+use Rattle.bh_spec.specs.Pieces.{SomeOf, CanBecome, IsNext}
 use Rattle.bh_spec.proofs.Meeting.{Meets, meets_map, meets_one}
 use Rattle.bh_spec.proofs.Agreement.{Agree}
-use Rattle.bh_spec.proofs.Pieces.{one_next}
+use Rattle.bh_spec.proofs.Pieces.{IsOnce, one_next}
 use Rattle.bh_spec.proofs.Sections.{IsNamed, section_agrees}
 use Rattle.bh_spec.proofs.Whole.{headers_named, trailers_named}
-use Rattle.bh_spec.proofs.Marks.{bytes_of-append}
 use Rattle.bh_model.specs.declared.field.Place.{Place}
 use Rattle.bh_model.specs.declared.field.Place.TheVariants.{Header, Trailer}
 use Rattle.bh_model.specs.Rules.{AreLines}
-use Rattle.bh_spec.specs.Pieces.{IsText, CanBecome, IsNext}
+use Rattle.bh_spec.specs.Residuals.{IsResidual}
+use Rattle.bh_spec.proofs.Residuals.{residual_step, residual_on, same_of, once_behind}
 use Rattle.bh_fields.specs.Sections.{SectionOf, IsSectionText}
 use Rattle.bh_fields.specs.Laws.{OneSection, OneNextPart}
-use Rattle.bh_fields.specs.Tracks.{Tracked}
+use Rattle.bh_fields.specs.Bytewise.{Steps, HasNone, HasSome, HasFirst, IsLeft}
 
 pub lines_named : (place : Place) (fields : List Field) → AreLines place fields → All IsNamed fields
 lines_named Header fields h = headers_named fields h
@@ -32,94 +32,58 @@ sections_meet K L form place fs gs t u a b =
 pub sections_once : (K L : Bounds) (form : Form) (place : Place) → Agree ⊥ (Unit {0}) (IsSectionText K form place) (IsSectionText L form place)
 sections_once K L form place t u a b = meets_map ⊥ (a.0 ≡ b.0) (Unit {0}) t u (λ e. tt) (sections_meet K L form place a.0 b.0 t u a.1 b.1)
 
-pub tracked_next : (form : Form) (place : Place) (bytes : List ℕ) (R : Bounds → List Field → Text → Type 0) → Tracked form place bytes R
-    → (L : Bounds) (part : Part) (fields : List Field) (byte : ℕ) (t : Text) → R L fields ((part, byte) ∷ t) → IsNext (IsSectionText L form place) bytes part
-tracked_next form place bytes R T L part fields byte t r =
-    record { before = T.text; byte = byte; after = t; spelled = (fields, T.back L fields ((part, byte) ∷ t) r); begins = T.same }
+-- ---- what is left of sections
 
--- what follows begins with the byte, and it has the part
-record Follows (R : Bounds → List Field → Text → Type 0) (K : Bounds) (fields : List Field) (text u : Text) (part : Part) (byte : ℕ) : Type 0 where
-  rest : Text
-  whole : u ≡ text ++ ((part, byte) ∷ rest)
-  follows : R K fields ((part, byte) ∷ rest)
+-- no text of what is left begins another
+pub left_once : (form : Form) (place : Place) (R : Bounds → List Field → Text → Type 0) → IsLeft form place R → (L : Bounds) → IsOnce (SomeOf (R L))
+left_once form place R h L = once_behind (SectionOf L form place) h.0 (λ fields. fields) (R L) (h.1 L) (sections_once L L form place)
 
-follows : (form : Form) (place : Place) (bytes : List ℕ) (R : Bounds → List Field → Text → Type 0) (T : Tracked form place bytes R)
-    → (L : Bounds) (part : Part) → IsNext (IsSectionText L form place) bytes part
-    → (K : Bounds) (fields : List Field) (u : Text) (byte : ℕ) (x : List ℕ) → SectionOf K form place fields u → bytes_of u ≡ (bytes ++ byte ∷ []) ++ x
-    → Follows R K fields T.text u part byte
-follows form place bytes R T L part next K fields u byte x h e =
-    let on : bytes_of u ≡ bytes ++ (byte ∷ x) = e ∙ append_assoc bytes (byte ∷ []) x in
-    let f = T.forth K fields u (byte ∷ x) h on in
-    let both : bytes_of T.text ++ bytes_of f.0 ≡ bytes_of T.text ++ (byte ∷ x) =
-    sym (bytes_of-append T.text f.0) ∙ sym (ap bytes_of f.1) ∙ on ∙ ap (λ (z : List ℕ). z ++ (byte ∷ x)) (sym T.same) in
-    at f.0 f.1 f.2 (append_cancel_left (bytes_of T.text) (bytes_of f.0) (byte ∷ x) both)
+first_next : (form : Form) (place : Place) (R : Bounds → List Field → Text → Type 0) (h : IsLeft form place R) (L : Bounds) (part : Part) (fields : List Field) (byte : ℕ) (t : Text)
+    → R L fields ((part, byte) ∷ t) → IsNext (IsSectionText L form place) (h.0 ++ []) part
+first_next form place R h L part fields byte t r =
+    ((same_of (SectionOf L form place) h.0 (λ fields. fields) (R L) (h.1 L)).next [] part).1
+    (record { before = []; byte = byte; after = t; spelled = (fields, r); begins = refl })
+
+-- whatever the limits, the first byte of what is left has one part
+pub left_part : (form : Form) (place : Place) (R : Bounds → List Field → Text → Type 0) → IsLeft form place R → (K : Bounds) (part : Part) → HasFirst R K part
+    → (L : Bounds) (byte : ℕ) (fields : List Field) (other : Part) (t : Text) → R L fields ((other, byte) ∷ t) → other ≡ part
+left_part form place R h K part first L byte fields other t r =
+    one_next (Unit {0}) (IsSectionText L form place) (IsSectionText K form place) (sections_once L K form place) (h.0 ++ []) other part
+    (first_next form place R h L other fields byte t r)
+    (first_next form place R h K part first.1.fields first.0 first.1.after first.1.rest)
+
+pub steps_leave : (form : Form) (place : Place) (R S : Bounds → List Field → Text → Type 0) → IsLeft form place R → (K : Bounds) (part : Part) (byte : ℕ) → HasFirst R K part
+    → Steps R S part byte → (L : Bounds) → IsResidual (R L) (byte ∷ []) (λ fields. fields) (S L)
+steps_leave form place R S h K part byte first s L =
+    residual_step (R L) part byte (λ fields. fields) (S L)
+    (record {
+      part_is = λ fields other t r. left_part form place R h K part first L byte fields other t r;
+      forth = λ fields t r. (fields, refl, s.forth L fields t r);
+      back = λ fields t r. s.back L fields t r;
+    })
+
+pub left_step : (form : Form) (place : Place) (R S : Bounds → List Field → Text → Type 0) → IsLeft form place R → (K : Bounds) (part : Part) (byte : ℕ) → HasFirst R K part
+    → Steps R S part byte → IsLeft form place S
+left_step form place R S h K part byte first s = (
+  h.0 ++ byte ∷ [],
+  λ L. residual_on (SectionOf L form place) h.0 (λ fields. fields) (R L) (byte ∷ []) (λ fields. fields) (S L) (h.1 L) (steps_leave form place R S h K part byte first s L),
+)
+
+-- a byte that nothing continues, and one that something does
+pub none_goes_on : (form : Form) (place : Place) (R : Bounds → List Field → Text → Type 0) → IsLeft form place R → (K : Bounds) (part : Part) (byte : ℕ) → HasFirst R K part
+    → (L : Bounds) → HasNone R L part byte → CanBecome (SomeOf (R L)) (byte ∷ []) → ⊥
+none_goes_on form place R h K part byte first L none c = at c.text c.spelled.1 c.begins
   where
-    at : (t : Text) → u ≡ T.text ++ t → R K fields t → bytes_of t ≡ byte ∷ x → Follows R K fields T.text u part byte
-    at [] g r b = absurd cc
-    at (a ∷ t) g r b =
-        let value : a.1 ≡ byte = cc in
-        let spelled : SectionOf K form place fields (T.text ++ ((a.0, a.1) ∷ t)) = subst (SectionOf K form place fields) g h in
-        let here : IsNext (IsSectionText K form place) bytes a.0 = record { before = T.text; byte = a.1; after = t; spelled = (fields, spelled); begins = T.same } in
-        let named : a.0 ≡ part = one_next (Unit {0}) (IsSectionText K form place) (IsSectionText L form place) (sections_once K L form place) bytes a.0 part here next in
-        let pair : a ≡ (part, byte) = ap₂ (λ (p : Part) (n : ℕ). let z : Part × ℕ = (p, n) in z) named value in
-        record {
-          rest = t;
-          whole = g ∙ ap (λ (z : Part × ℕ). T.text ++ (z ∷ t)) pair;
-          follows = subst (λ (z : Part × ℕ). R K fields (z ∷ t)) pair r;
-        }
+    at : (t : Text) → R L c.spelled.0 t → bytes_of t ≡ (byte ∷ []) ++ c.after → ⊥
+    at [] r e = absurd cc
+    at ((other, value) ∷ t) r e =
+        let same : value ≡ byte = cc in
+        let here : R L c.spelled.0 ((other, byte) ∷ t) = subst (λ (v : ℕ). R L c.spelled.0 ((other, v) ∷ t)) same r in
+        let named : other ≡ part = left_part form place R h K part first L byte c.spelled.0 other t here in
+        none c.spelled.0 t (subst (λ (p : Part). R L c.spelled.0 ((p, byte) ∷ t)) named here)
 
--- a byte that is taken
-pub tracked_step : (form : Form) (place : Place) (bytes : List ℕ) (R S : Bounds → List Field → Text → Type 0) → Tracked form place bytes R
-    → (L : Bounds) (part : Part) (byte : ℕ) → IsNext (IsSectionText L form place) bytes part
-    → ((K : Bounds) (fields : List Field) (t : Text) → R K fields ((part, byte) ∷ t) → S K fields t)
-    → ((K : Bounds) (fields : List Field) (t : Text) → S K fields t → R K fields ((part, byte) ∷ t))
-    → Tracked form place (bytes ++ byte ∷ []) S
-tracked_step form place bytes R S T L part byte next forth back = record {
-  text = T.text ++ ((part, byte) ∷ []);
-  same = bytes_of-append T.text ((part, byte) ∷ []) ∙ ap (λ (z : List ℕ). z ++ byte ∷ []) T.same;
-  forth = λ K fields u x h e.
-      let f = follows form place bytes R T L part next K fields u byte x h e in
-      (f.rest, f.whole ∙ sym (append_assoc T.text ((part, byte) ∷ []) f.rest), forth K fields f.rest f.follows);
-  back = λ K fields t s. subst (SectionOf K form place fields) (sym (append_assoc T.text ((part, byte) ∷ []) t)) (T.back K fields ((part, byte) ∷ t) (back K fields t s));
-}
-
--- where what may follow is said in other words
-pub tracked_same : (form : Form) (place : Place) (bytes : List ℕ) (R S : Bounds → List Field → Text → Type 0) → Tracked form place bytes R
-    → ((K : Bounds) (fields : List Field) (t : Text) → R K fields t → S K fields t)
-    → ((K : Bounds) (fields : List Field) (t : Text) → S K fields t → R K fields t)
-    → Tracked form place bytes S
-tracked_same form place bytes R S T forth back = record {
-  text = T.text;
-  same = T.same;
-  forth = λ K fields u x h e. let f = T.forth K fields u x h e in (f.0, f.1, forth K fields f.0 f.2);
-  back = λ K fields t s. T.back K fields t (back K fields t s);
-}
-
--- a byte that nothing continues
-pub tracked_dead : (form : Form) (place : Place) (bytes : List ℕ) (R : Bounds → List Field → Text → Type 0) → Tracked form place bytes R
-    → (L : Bounds) (part : Part) (byte : ℕ) → IsNext (IsSectionText L form place) bytes part
-    → (K : Bounds) → ((fields : List Field) (t : Text) → R K fields ((part, byte) ∷ t) → ⊥) → CanBecome (IsSectionText K form place) (bytes ++ byte ∷ []) → ⊥
-tracked_dead form place bytes R T L part byte next K none h =
-    let f = follows form place bytes R T L part next K h.spelled.0 h.text byte h.after h.spelled.1 h.begins in
-    none h.spelled.0 f.rest f.follows
-
--- a byte that something continues
-pub tracked_alive : (form : Form) (place : Place) (bytes : List ℕ) (R : Bounds → List Field → Text → Type 0) → Tracked form place bytes R
-    → (K : Bounds) (part : Part) (byte : ℕ) (fields : List Field) (t : Text) → R K fields ((part, byte) ∷ t) → CanBecome (IsSectionText K form place) (bytes ++ byte ∷ [])
-tracked_alive form place bytes R T K part byte fields t r = record {
-  text = T.text ++ ((part, byte) ∷ t);
-  after = bytes_of t;
-  spelled = (fields, T.back K fields ((part, byte) ∷ t) r);
-  begins = bytes_of-append T.text ((part, byte) ∷ t) ∙ ap (λ (z : List ℕ). z ++ (byte ∷ bytes_of t)) T.same ∙ sym (append_assoc bytes (byte ∷ []) (bytes_of t));
-}
-
-pub tracked_whole : (form : Form) (place : Place) (bytes : List ℕ) (R : Bounds → List Field → Text → Type 0) → Tracked form place bytes R
-    → (L : Bounds) (fields : List Field) → R L fields [] → IsText (SectionOf L form place fields) bytes
-tracked_whole form place bytes R T L fields r = record {
-  text = T.text;
-  spelled = subst (SectionOf L form place fields) (append-nil T.text) (T.back L fields [] r);
-  same = T.same;
-}
+pub some_goes_on : (R : Bounds → List Field → Text → Type 0) (L : Bounds) (part : Part) (byte : ℕ) → HasSome R L part byte → CanBecome (SomeOf (R L)) (byte ∷ [])
+some_goes_on R L part byte s = record { text = (part, byte) ∷ s.after; after = bytes_of s.after; spelled = (s.fields, s.rest); begins = refl }
 
 -- ---- the laws of sections as a whole
 

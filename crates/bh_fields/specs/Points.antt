@@ -1,13 +1,11 @@
 -- A section that is being read: what is stored of it, and what that says of the bytes.
-use Rattle.std.specs.Prelude.{ℕ, ◌≡◌, ◌<◌, ◌≤◌, ◌+◌, ◌-◌, ◌*◌, ◌/◌, ◌↔◌, Bool, List, [], ◌∷◌, ◌++◌, length, Option, Some, None, unwrap_or, IsTrue, vec_capacity}
+use Rattle.std.specs.Prelude.{ℕ, ◌≡◌, ◌<◌, ◌≤◌, ◌+◌, ◌-◌, ◌*◌, ◌/◌, ◌↔◌, Bool, List, [], length, Option, Some, None, unwrap_or, IsTrue}
 use Rattle.bh_spec.specs.declared.Form.{Form}
 use Rattle.bh_spec.specs.declared.Form.TheVariants.{Known, Indeterminate}
-use Rattle.bh_spec.specs.declared.Part.TheVariants as parts
 use Rattle.bh_spec.specs.Integers.{IsAllowed, SomeBegins}
 use Rattle.bh_spec.specs.Bounds.{Bounds, IsWithin, no_bounds}
-use Rattle.bh_spec.specs.Bytes.{lower}
 use Rattle.bh_spec.specs.Messages.{Field}
-use Rattle.bh_spec.specs.Texts.{mark}
+use Rattle.bh_spec.specs.Texts.{Text}
 use Rattle.bh_varint.specs.Step.{IsUnfinished}
 use Rattle.bh_model.specs.declared.field.Place.{Place}
 use Rattle.bh_model.specs.Lines.{FieldsView, lines_room, making_room, making_count}
@@ -15,13 +13,13 @@ use Rattle.bh_model.specs.Rules.{IsNameBehind}
 use Rattle.bh_fields.specs.declared.walk.Walk.{Walk}
 use Rattle.bh_fields.specs.declared.walk.Phase.{Phase}
 use Rattle.bh_fields.specs.declared.walk.Phase.TheVariants as phases
-use Rattle.bh_fields.specs.declared.walk.Judged.{Judged}
-use Rattle.bh_fields.specs.declared.walk.Judged.TheVariants as judged
+use Rattle.bh_spec.specs.declared.Judged.{Judged}
+use Rattle.bh_spec.specs.declared.Judged.TheVariants as judged
 use Rattle.bh_fields.specs.Sets.{lines_set, names_set, values_set}
-use Rattle.bh_spec.specs.Pieces.{IsText, CanBecome}
-use Rattle.bh_fields.specs.Sections.{SectionOf, IsSectionText}
-use Rattle.bh_fields.specs.Rests.{Spot, NumberThen, AreGood, CanEnd, HasMore, LinesLeft, ValueLeft, ValueBody, NameLeft, NameBody, LengthBody}
-use Rattle.bh_fields.specs.Tracks.{Tracked}
+use Rattle.bh_fields.specs.Rests.{Spot, AreGood, CanEnd, HasMore, LinesLeft, NameBody}
+use Rattle.bh_fields.specs.Middle.{line_begun, RestAt}
+use Rattle.bh_fields.specs.Bytewise.{Steps, AreSame, HasNone, HasSome}
+use Rattle.bh_fields.specs.Phases.{part_at}
 use Rattle.bh_fields.specs.Names.{MayBePseudo, NameGood, ValueGood}
 
 -- what is stored, but for what is read next
@@ -33,10 +31,7 @@ pub record Point : Type 0 where
   pub used : ℕ
   pub number : List ℕ
   pub flag : Bool
-  pub name_at : ℕ
   pub fields : FieldsView
-  pub kept : List ℕ
-  pub capacity : ℕ
 
 abbrev pub point_of : Walk → Point
 point_of w = record {
@@ -47,14 +42,22 @@ point_of w = record {
   used = w.used;
   number = w.number;
   flag = w.may_be_pseudo;
-  name_at = w.name_at;
   fields = w.fields;
-  kept = w.kept.items;
-  capacity = vec_capacity w.kept;
 }
 
 abbrev pub spot_of : Point → Spot
 spot_of p = record { form = p.form; place = p.place; total = p.total; used = p.used; done = p.fields.lines }
+
+-- in a phase, what may follow
+abbrev pub RestOf : Phase → Point → Bounds → List Field → Text → Type 0
+RestOf phase p L fields t = RestAt phase L (spot_of p) p.number (line_begun p.fields.making) fields t
+
+-- what may follow between two phases: before a line or at the end, and behind a name's length of n, in so many bytes
+abbrev pub LinesAt : Point → Bounds → List Field → Text → Type 0
+LinesAt p L fields t = LinesLeft L (spot_of p) fields t
+
+abbrev pub NamedAt : Point → ℕ → ℕ → Bounds → List Field → Text → Type 0
+NamedAt p n bytes L fields t = NameBody L (spot_of p) fields n bytes t
 
 -- the limits, which are always there
 abbrev pub part_of : Bounds → ℕ
@@ -69,7 +72,6 @@ pub record IsSized (p : Point) : Type 0 where
   pub part_low : 16 ≤ part_of p.limits
   pub most_is : p.limits.section ≡ Some (most_of p.limits)
   pub most_high : most_of p.limits ≤ 1048576
-  pub capacity : most_of p.limits + 16 ≤ p.capacity
   pub bytes : p.fields.spare + lines_room p.fields.lines + making_room p.fields.making ≡ most_of p.limits
   pub count : p.fields.free + length p.fields.lines + making_count p.fields.making ≡ most_of p.limits / 3
 
@@ -93,10 +95,6 @@ pub record LengthState (p : Point) : Type 0 where
   pub good : AreGood p.limits p.place p.fields.lines
   pub live : SomeBegins (lines_set (most_of p.limits)) p.number
   pub unfinished : IsUnfinished p.number
-  pub counted : length p.kept ≡ length p.number
-  pub long : length p.kept ≤ 7
-  pub tracked : Tracked p.form p.place p.kept
-      (λ L fields t. NumberThen parts.SectionLength (LengthBody L (spot_of p) fields) (mark parts.SectionLength p.number ++ t))
 
 -- what stands between lines
 pub record Between (p : Point) : Type 0 where
@@ -113,8 +111,6 @@ pub record NextState (p : Point) : Type 0 where
   pub between : Between p
   pub can_end : CanEnd p.limits p.form p.total p.used
   pub number : p.number ≡ []
-  pub long : length p.kept + p.total ≤ most_of p.limits + 8 + p.used
-  pub tracked : Tracked p.form p.place p.kept (λ L fields t. LinesLeft L (spot_of p) fields t)
 
 -- a name's length is read, or the end
 pub record LineState (p : Point) : Type 0 where
@@ -122,29 +118,16 @@ pub record LineState (p : Point) : Type 0 where
   pub more : HasMore p.form p.total p.used
   pub live : SomeBegins (names_set p.form (part_of p.limits) (Some (p.total - p.used))) p.number
   pub unfinished : IsUnfinished p.number
-  pub long : length p.kept + p.total ≤ most_of p.limits + 8 + length p.number + p.used
-  pub tracked : Tracked p.form p.place p.kept
-      (λ L fields t. NumberThen parts.NameLength (NameBody L (spot_of p) fields) (mark parts.NameLength p.number ++ t))
 
 -- behind a name's length of so many bytes, or the end
 pub record NamedState (p : Point) (n bytes : ℕ) : Type 0 where
   pub between : Between p
   pub allowed : IsAllowed (names_set p.form (part_of p.limits) (Some (p.total - p.used))) bytes n
   pub number : p.number ≡ []
-  pub long : length p.kept + p.total ≤ most_of p.limits + 8 + bytes + p.used
-  pub tracked : Tracked p.form p.place p.kept (λ L fields t. NameBody L (spot_of p) fields n bytes t)
 
 -- the line that is being made
 abbrev pub making_of : List ℕ → List ℕ → Option Field
 making_of name value = Some (record { name = name; value = value })
-
--- where the name stands among the bytes, as it is spelled
-pub record NameAt (kept : List ℕ) (at : ℕ) (name : List ℕ) : Type 0 where
-  pub front : List ℕ
-  pub spelled : List ℕ
-  pub whole : kept ≡ front ++ spelled
-  pub begins : length front ≡ at
-  pub lowered : lower spelled ≡ name
 
 -- a name is read, of which so many bytes are missing
 pub record NameState (p : Point) (missing : ℕ) : Type 0 where
@@ -154,15 +137,12 @@ pub record NameState (p : Point) (missing : ℕ) : Type 0 where
   pub kind : NameGood p.flag name missing
   pub within : IsWithin p.limits.part (length name + missing)
   pub some : 0 < missing
-  pub stands : NameAt p.kept p.name_at name
   pub good : AreGood p.limits p.place p.fields.lines
   pub bounded : IsBounded p.limits p.form p.total
   pub room : p.used < p.total
   pub spare : missing + p.total ≤ p.fields.spare + 1 + p.used
   pub free : p.fields.spare + length name ≤ 3 * p.fields.free + 3
   pub number : p.number ≡ []
-  pub long : length p.kept + missing + p.total ≤ most_of p.limits + 8 + p.used
-  pub tracked : Tracked p.form p.place p.kept (λ L fields t. NameLeft L (spot_of p) name missing fields t)
 
 -- what stands behind a whole name
 pub record Valued (p : Point) (name value : List ℕ) : Type 0 where
@@ -183,9 +163,6 @@ pub record ValueLengthState (p : Point) : Type 0 where
   pub live : SomeBegins (values_set p.form (part_of p.limits) (Some (p.total - p.used))) p.number
   pub unfinished : IsUnfinished p.number
   pub spare : p.total ≤ p.fields.spare + 1 + p.used
-  pub long : length p.kept + p.total ≤ most_of p.limits + 8 + length p.number + p.used
-  pub tracked : Tracked p.form p.place p.kept
-      (λ L fields t. NumberThen parts.ValueLength (ValueBody L (spot_of p) name fields) (mark parts.ValueLength p.number ++ t))
 
 -- inside a value, of which so many bytes are missing, if any
 pub record InValue (p : Point) (value : List ℕ) (missing : ℕ) : Type 0 where
@@ -196,8 +173,6 @@ pub record InValue (p : Point) (value : List ℕ) (missing : ℕ) : Type 0 where
   pub can_end : CanEnd p.limits p.form p.total p.used
   pub spare : missing + p.total ≤ p.fields.spare + p.used
   pub number : p.number ≡ []
-  pub long : length p.kept + missing + p.total ≤ most_of p.limits + 8 + p.used
-  pub tracked : Tracked p.form p.place p.kept (λ L fields t. ValueLeft L (spot_of p) name value missing fields t)
 
 -- a value is read; the flag says whether none of it came
 pub record ValueState (p : Point) (missing : ℕ) (first : Bool) : Type 0 where
@@ -209,7 +184,8 @@ pub record ValueState (p : Point) (missing : ℕ) (first : Bool) : Type 0 where
 -- the section is whole
 pub record WholeState (p : Point) : Type 0 where
   pub idle : p.fields.making ≡ None
-  pub whole : IsText (SectionOf p.limits p.form p.place p.fields.lines) p.kept
+  pub good : AreGood p.limits p.place p.fields.lines
+  pub within : IsWithin p.limits.section p.used
 
 -- what is known where a byte may be read
 abbrev pub ReadingAt : Phase → Point → Type 0
@@ -228,19 +204,20 @@ pub record IsSame (p q : Point) : Type 0 where
   pub form : q.form ≡ p.form
   pub place : q.place ≡ p.place
 
--- what is known behind bytes that were taken
-abbrev pub Moves : Judged → Point → Phase → Point → Type 0
-Moves judged.More p phase q = IsSized q × ReadingAt phase q × IsSame p q × (q.kept ≡ p.kept)
-Moves judged.Whole p phase q = IsSized q × ((phase ≡ phases.Whole) × WholeState q) × IsSame p q × (q.kept ≡ p.kept)
-Moves judged.Limit p phase q = ⊥
-Moves judged.Dead p phase q = ⊥
+-- what is known behind bytes that were taken, and behind which R followed
+abbrev pub Moves : Judged → (Bounds → List Field → Text → Type 0) → Point → Phase → Point → Type 0
+Moves judged.More R p phase q = IsSized q × ReadingAt phase q × IsSame p q × AreSame R (RestOf phase q)
+Moves judged.Whole R p phase q = IsSized q × ((phase ≡ phases.Whole) × WholeState q) × IsSame p q × AreSame R (RestOf phases.Whole q)
+Moves judged.Limit R p phase q = ⊥
+Moves judged.Dead R p phase q = ⊥
 
-abbrev pub Goes : Bounds → Point → ℕ → Type 0
-Goes L p byte = CanBecome (IsSectionText L p.form p.place) (p.kept ++ byte ∷ [])
-
--- what a byte makes of it
-abbrev pub IsStep : Judged → Point → ℕ → Phase → Point → Type 0
-IsStep judged.More p byte phase q = IsSized q × ReadingAt phase q × IsSame p q × (q.kept ≡ p.kept ++ byte ∷ [])
-IsStep judged.Whole p byte phase q = IsSized q × ((phase ≡ phases.Whole) × WholeState q) × IsSame p q × (q.kept ≡ p.kept ++ byte ∷ [])
-IsStep judged.Limit p byte phase q = IsSized q × ((Goes p.limits p byte → ⊥) × Goes no_bounds p byte) × IsSame p q × (q.kept ≡ p.kept)
-IsStep judged.Dead p byte phase q = IsSized q × ((Goes p.limits p byte → ⊥) × (Goes no_bounds p byte → ⊥)) × IsSame p q × (q.kept ≡ p.kept)
+-- what a byte makes of it in a phase
+abbrev pub IsStep : Judged → Phase → Point → ℕ → Phase → Point → Type 0
+IsStep judged.More now p byte phase q = IsSized q × ReadingAt phase q × IsSame p q
+    × Steps (RestOf now p) (RestOf phase q) (part_at now) byte
+IsStep judged.Whole now p byte phase q = IsSized q × ((phase ≡ phases.Whole) × WholeState q) × IsSame p q
+    × Steps (RestOf now p) (RestOf phases.Whole q) (part_at now) byte
+IsStep judged.Limit now p byte phase q = IsSized q × IsSame p q × HasNone (RestOf now p) p.limits (part_at now) byte
+    × HasSome (RestOf now p) no_bounds (part_at now) byte
+IsStep judged.Dead now p byte phase q = IsSized q × IsSame p q × HasNone (RestOf now p) p.limits (part_at now) byte
+    × HasNone (RestOf now p) no_bounds (part_at now) byte

@@ -12,8 +12,9 @@ mod steps;
 mod tests;
 mod walk;
 
+pub use bh_spec::PieceStep as SectionStep;
 pub use laws::{
-    name_byte_alive, name_length_alive, one_next_part, one_section, section_length_alive,
-    value_byte_alive, value_length_alive,
+    begun_is_a_section, name_byte_alive, name_length_alive, one_next_part, one_section,
+    same_from_the_beginning, section_length_alive, value_byte_alive, value_length_alive,
 };
-pub use reader::{SectionReader, SectionStep};
+pub use reader::SectionReader;

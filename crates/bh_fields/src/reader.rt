@@ -1,40 +1,32 @@
 //! The reader of sections, over pieces of any length.
-ghost use Rattle.std.specs.Prelude.{◌≡◌, ◌↔◌, ℕ, IfOk, IsTrue, None};
+ghost use Rattle.std.specs.Prelude.{◌≡◌, ◌↔◌, ℕ, IfOk, IsTrue, None, []};
 ghost use Rattle.bh_spec.specs.declared.Part.{Part as part_type};
 ghost use Rattle.bh_spec.specs.Pieces.{IsNext, Ends, GoesOn, IsDead, IsLimit};
-ghost use Rattle.bh_fields.specs.Views.{reading, whole, new_view, begun_view, first_of, Takes};
-ghost use Rattle.bh_fields.specs.Readers.{IsWanted, IsUnlimited, IsBehind, Shows};
+ghost use Rattle.bh_spec.specs.Readings.{reading, whole, Shows};
+ghost use Rattle.bh_fields.specs.Middle.{new_view, begun_view, first_of};
+ghost use Rattle.bh_fields.specs.Bytewise.{IsLeft};
+ghost use Rattle.bh_fields.specs.Middle.{Rest as rest_of};
+ghost use Rattle.bh_fields.specs.Views.{Takes};
+ghost use Rattle.bh_fields.specs.Readers.{IsWanted, IsUnlimited, IsBehind};
 
-use crate::walk::{Judged, Phase, Walk};
+use crate::walk::{Phase, Walk};
 use bh_base::NoMemory;
 use bh_model::{Fields, Form, Limits, Part, Place};
+use bh_spec::{Judged, PieceStep as SectionStep};
 use bh_varint::Partial;
 use std::alloc::Global;
 use std::marker::Model;
 
-/// What a piece makes of a section.
-#[derive(Clone, Copy, Debug, PartialEq, Eq)]
-pub enum SectionStep {
-    /// The whole piece was taken, and the section isn't whole.
-    Need,
-    /// With so many bytes of the piece the section is whole.
-    Whole { taken: usize },
-    /// No section goes on with the byte at this place of the piece, not even without limits. The byte's part is that of the
-    /// next byte in every section that continues the bytes before it.
-    Dead { offset: usize, part: Part },
-    /// Only the limits forbid every section that goes on with the byte.
-    Limit { offset: usize, part: Part },
-}
-
-/// Reads field sections (RFC 9292, section 3.6), one after the other. It keeps the bytes of the section that it reads, and
-/// takes its memory when it is made.
+/// Reads field sections (RFC 9292, section 3.6), one after the other. It stores the lines of the section that it reads and a few
+/// numbers, and takes its memory when it is made.
 #[derive(Drop)]
 pub struct SectionReader {
     walk: Walk,
 }
 
 impl Model for SectionReader {
-    ghost use Rattle.bh_fields.specs.Views.{SectionView, view_of, IsSound};
+    ghost use Rattle.bh_fields.specs.Middle.{SectionView};
+    ghost use Rattle.bh_fields.specs.Views.{view_of, IsSound};
 
     ghost Value = { SectionView };
 
@@ -53,7 +45,6 @@ impl SectionReader {
         prove!(part >= 16);
         let most = limits.section() as usize;
         let fields = Fields::with_room(alloc, most, most / 3)?;
-        let kept = Vec::with_capacity(alloc, most + 16)?;
         Ok(SectionReader {
             walk: Walk {
                 limits: *limits,
@@ -64,9 +55,7 @@ impl SectionReader {
                 used: 0,
                 number: Partial::new(),
                 may_be_pseudo: false,
-                name_at: 0,
                 fields,
-                kept,
             },
         })
     }
@@ -82,30 +71,28 @@ impl SectionReader {
         self.walk.used = 0;
         self.walk.number = Partial::new();
         self.walk.may_be_pseudo = is_header(place);
-        self.walk.name_at = 0;
         self.walk.fields.clear();
-        self.walk.kept.clear();
         self.walk.phase = first_phase(form);
     }
 
     /// Takes the bytes of a piece up to the section's end, or to the first byte after which no section continues.
     pub fn push(&mut self, piece: &[u8]) -> SectionStep
         requires { self.old.stage ≡ reading }
-        ensures need { (result ≡ SectionStep.Need) ↔ GoesOn (IsWanted self.old) self.old.bytes piece.now }
+        ensures need { (result ≡ SectionStep.Need) ↔ GoesOn (IsWanted self.old) [] piece.now }
         ensures whole { (taken : ℕ)
-            → (result ≡ SectionStep.Whole taken) ↔ Ends (IsWanted self.old) self.old.bytes piece.now taken }
+            → (result ≡ SectionStep.Whole taken) ↔ Ends (IsWanted self.old) [] piece.now taken }
         ensures dead { (offset : ℕ) (part : part_type)
             → (result ≡ SectionStep.Dead offset part)
-            ↔ IsDead (IsWanted self.old) (IsUnlimited self.old) self.old.bytes piece.now offset part }
+            ↔ IsDead (IsWanted self.old) (IsUnlimited self.old) [] piece.now offset part }
         ensures limit { (offset : ℕ) (part : part_type)
             → (result ≡ SectionStep.Limit offset part)
-            ↔ IsLimit (IsWanted self.old) (IsUnlimited self.old) self.old.bytes piece.now offset part }
+            ↔ IsLimit (IsWanted self.old) (IsUnlimited self.old) [] piece.now offset part }
 
         // The same by cases, as an arm of a caller's `match` reads it.
-        ensures shows { Shows self.old piece.now result }
+        ensures shows { Shows (IsWanted self.old) (IsUnlimited self.old) [] piece.now result }
         ensures behind { IsBehind self.old piece.now result self.new }
     {
-        let mut part = self.next_part();
+        let mut part = self.first_part();
         for (offset, &byte) in piece.iter().enumerate() {
             match self.take(byte) {
                 Judged::More => part = self.next_part(),
@@ -115,6 +102,15 @@ impl SectionReader {
             }
         }
         SectionStep::Need
+    }
+
+    /// The part of the next byte.
+    fn first_part(&self) -> Part
+        requires { self.now.stage ≡ reading }
+        ensures next { IsNext (IsWanted self.now) [] result }
+        ensures left { IsLeft self.now.form self.now.place (λ L. rest_of L self.now) }
+    {
+        self.walk.phase.part()
     }
 
     /// Takes a byte.
@@ -139,9 +135,9 @@ impl SectionReader {
     /// The part of the next byte.
     pub fn next_part(&self) -> Part
         requires { self.now.stage ≡ reading }
-        ensures { IsNext (IsWanted self.now) self.now.bytes result }
+        ensures { IsNext (IsWanted self.now) [] result }
     {
-        self.walk.phase.part()
+        self.first_part()
     }
 
     /// The lines. Between `Whole` and the next `begin` they are the section's.

@@ -1,15 +1,16 @@
 //! What a byte makes of a section.
-ghost use Rattle.std.specs.Prelude.{◌≡◌, ℕ, ◌<◌, ◌↔◌, List, ◌++◌, ◌∷◌, [], IsTrue};
+ghost use Rattle.std.specs.Prelude.{◌≡◌, ℕ, true, ◌<◌, ◌↔◌, List, ◌++◌, ◌∷◌, [], IsTrue};
 ghost use Rattle.std.specs.Char.{to_ascii_lowercase};
 ghost use Rattle.bh_spec.specs.Bytes.{lower};
 ghost use Rattle.bh_spec.specs.Messages.{IsControlName};
 ghost use Rattle.bh_fields.specs.Names.{NameTakes, IsValueByte, flag_behind};
 ghost use Rattle.bh_fields.specs.Sets.{free_room};
-ghost use Rattle.bh_fields.specs.Points.{Point, point_of, IsSized, IsFull, LengthState, NextState, LineState, NamedState, NameState, ValueLengthState, InValue, ValueState, ReadingAt, Moves, IsStep};
+ghost use Rattle.bh_fields.specs.Points.{Point, point_of, RestOf, LinesAt, NamedAt, IsSized, IsFull, LengthState, NextState, LineState, NamedState, NameState, ValueLengthState, InValue, ValueState, ReadingAt, Moves, IsStep};
 
 use crate::sets::{Read, judge, length_set, name_set, value_set};
-use crate::walk::{Judged, Phase, Walk};
+use crate::walk::{Phase, Walk};
 use bh_model::Form;
+use bh_spec::Judged;
 use bh_varint::GREATEST;
 
 /// Whether the name is one of control data with the byte behind it, in any case of letters (RFC 9113, section 8.3). Each
@@ -85,7 +86,7 @@ impl Walk {
     pub fn step(&mut self, byte: u8) -> Judged
         requires sized { IsSized (point_of self.old) }
         requires reading { ReadingAt self.old.phase (point_of self.old) }
-        ensures { IsStep result (point_of self.old) byte self.new.phase (point_of self.new) }
+        ensures { IsStep result self.old.phase (point_of self.old) byte self.new.phase (point_of self.new) }
     {
         match self.phase {
             Phase::SectionLength => self.take_length(byte),
@@ -102,17 +103,13 @@ impl Walk {
         requires phase { self.old.phase ≡ Phase.SectionLength }
         requires sized { IsSized (point_of self.old) }
         requires state { LengthState (point_of self.old) }
-        ensures { IsStep result (point_of self.old) byte self.new.phase (point_of self.new) }
+        ensures { IsStep result Phase.SectionLength (point_of self.old) byte self.new.phase (point_of self.new) }
     {
         let within = length_set(self.limits.section());
         let free = length_set(GREATEST);
         match judge(&mut self.number, byte, &within, &free) {
-            Read::More => {
-                self.kept.push_reserved(byte);
-                Judged::More
-            }
+            Read::More => Judged::More,
             Read::Value { value, width: _ } => {
-                self.kept.push_reserved(byte);
                 self.total = value;
                 self.next_line()
             }
@@ -126,20 +123,14 @@ impl Walk {
         requires phase { self.old.phase ≡ Phase.NameLength }
         requires sized { IsSized (point_of self.old) }
         requires state { LineState (point_of self.old) }
-        ensures { IsStep result (point_of self.old) byte self.new.phase (point_of self.new) }
+        ensures { IsStep result Phase.NameLength (point_of self.old) byte self.new.phase (point_of self.new) }
     {
         let room = self.total - self.used;
         let within = name_set(self.form, self.limits.part(), Some(room));
         let free = name_set(self.form, GREATEST, room_without_limits(self.form, room));
         match judge(&mut self.number, byte, &within, &free) {
-            Read::More => {
-                self.kept.push_reserved(byte);
-                Judged::More
-            }
-            Read::Value { value, width } => {
-                self.kept.push_reserved(byte);
-                self.begin_name(value, width.bytes() as u64)
-            }
+            Read::More => Judged::More,
+            Read::Value { value, width } => { self.begin_name(value, width.bytes() as u64) }
             Read::Limit => Judged::Limit,
             Read::Dead => Judged::Dead,
         }
@@ -150,14 +141,13 @@ impl Walk {
         requires width { 0 < width }
         requires sized { IsSized (point_of self.old) }
         requires state { NamedState (point_of self.old) long width }
-        ensures { Moves result (point_of self.old) self.new.phase (point_of self.new) }
+        ensures { Moves result (NamedAt (point_of self.old) long width) (point_of self.old) self.new.phase (point_of self.new) }
     {
         if long == 0 {
             self.phase = Phase::Whole;
             return Judged::Whole;
         }
         self.used += width + long;
-        self.name_at = self.kept.len();
         self.fields.start_line();
         self.phase = Phase::Name { missing: long };
         Judged::More
@@ -167,14 +157,13 @@ impl Walk {
     fn take_name(&mut self, byte: u8, missing: u64) -> Judged
         requires sized { IsSized (point_of self.old) }
         requires state { NameState (point_of self.old) missing }
-        ensures { IsStep result (point_of self.old) byte self.new.phase (point_of self.new) }
+        ensures { IsStep result (Phase.Name missing) (point_of self.old) byte self.new.phase (point_of self.new) }
     {
-        let front = &self.kept[self.name_at..];
+        let front = self.fields.begun_name();
         if !is_name_byte(front, byte, missing, self.may_be_pseudo) {
             return Judged::Dead;
         }
         self.may_be_pseudo = is_pseudo_with(front, byte, self.may_be_pseudo);
-        self.kept.push_reserved(byte);
         self.fields.put_name(byte);
         if missing > 1 {
             self.phase = Phase::Name {
@@ -191,18 +180,14 @@ impl Walk {
         requires phase { self.old.phase ≡ Phase.ValueLength }
         requires sized { IsSized (point_of self.old) }
         requires state { ValueLengthState (point_of self.old) }
-        ensures { IsStep result (point_of self.old) byte self.new.phase (point_of self.new) }
+        ensures { IsStep result Phase.ValueLength (point_of self.old) byte self.new.phase (point_of self.new) }
     {
         let room = self.total - self.used;
         let within = value_set(self.form, self.limits.part(), Some(room));
         let free = value_set(self.form, GREATEST, room_without_limits(self.form, room));
         match judge(&mut self.number, byte, &within, &free) {
-            Read::More => {
-                self.kept.push_reserved(byte);
-                Judged::More
-            }
+            Read::More => Judged::More,
             Read::Value { value, width } => {
-                self.kept.push_reserved(byte);
                 self.used += width.bytes() as u64 + value;
                 self.begin_value(value)
             }
@@ -215,7 +200,7 @@ impl Walk {
     fn begin_value(&mut self, long: u64) -> Judged
         requires sized { IsSized (point_of self.old) }
         requires state { InValue (point_of self.old) [] long }
-        ensures { Moves result (point_of self.old) self.new.phase (point_of self.new) }
+        ensures { Moves result (RestOf (Phase.Value long true) (point_of self.old)) (point_of self.old) self.new.phase (point_of self.new) }
     {
         if long == 0 {
             return self.end_line();
@@ -231,12 +216,11 @@ impl Walk {
     fn take_value(&mut self, byte: u8, missing: u64, first: bool) -> Judged
         requires sized { IsSized (point_of self.old) }
         requires state { ValueState (point_of self.old) missing first }
-        ensures { IsStep result (point_of self.old) byte self.new.phase (point_of self.new) }
+        ensures { IsStep result (Phase.Value missing first) (point_of self.old) byte self.new.phase (point_of self.new) }
     {
         if !is_value_byte(byte, missing, first) {
             return Judged::Dead;
         }
-        self.kept.push_reserved(byte);
         self.fields.put_value(byte);
         if missing == 1 {
             return self.end_line();
@@ -252,7 +236,7 @@ impl Walk {
     fn end_line(&mut self) -> Judged
         requires sized { IsSized (point_of self.old) }
         requires state { (value : List ℕ) × InValue (point_of self.old) value 0 }
-        ensures { Moves result (point_of self.old) self.new.phase (point_of self.new) }
+        ensures { Moves result (RestOf (Phase.Value 0 true) (point_of self.old)) (point_of self.old) self.new.phase (point_of self.new) }
     {
         self.fields.end_line();
         self.next_line()
@@ -272,7 +256,7 @@ impl Walk {
     fn next_line(&mut self) -> Judged
         requires sized { IsSized (point_of self.old) }
         requires state { NextState (point_of self.old) }
-        ensures { Moves result (point_of self.old) self.new.phase (point_of self.new) }
+        ensures { Moves result (LinesAt (point_of self.old)) (point_of self.old) self.new.phase (point_of self.new) }
     {
         if self.is_full() {
             self.phase = Phase::Whole;

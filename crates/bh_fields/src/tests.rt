@@ -1,5 +1,5 @@
 ghost use Rattle.std.specs.Prelude.{◌≡◌, IfOk};
-ghost use Rattle.bh_fields.specs.Views.{reading};
+ghost use Rattle.bh_spec.specs.Readings.{reading};
 
 use crate::{SectionReader, SectionStep, plain};
 use bh_model::{Form, Limits, Part, Place};

@@ -42,19 +42,6 @@ impl Phase {
     }
 }
 
-/// What a byte makes of the section.
-#[derive(Clone, Copy, Debug)]
-pub enum Judged {
-    /// It goes on.
-    More,
-    /// It is whole.
-    Whole,
-    /// Only the limits forbid each section that begins so.
-    Limit,
-    /// No section begins so.
-    Dead,
-}
-
 /// A section that is being read.
 #[derive(Drop)]
 pub struct Walk {
@@ -69,9 +56,5 @@ pub struct Walk {
     pub number: Partial,
     /// Whether a pseudo-field may stand next; inside a line, whether it is one.
     pub may_be_pseudo: bool,
-    /// Where the last name begins among the bytes.
-    pub name_at: usize,
     pub fields: Fields,
-    /// The bytes since the section was begun.
-    pub kept: Vec<u8>,
 }

@@ -1,5 +1,5 @@
 use Rattle.std.proofs.Common.{◌≡◌}
-use Rattle.bh_fields.specs.Views.{reading}
+use Rattle.bh_spec.specs.Readings.{reading}
 use Rattle.bh_fields.proofs.tests.pieces_of_one_byte_give_the_same_answer.Given as goal
 
 abbrev pub invariant-loop-i : goal.invariant-loop-i

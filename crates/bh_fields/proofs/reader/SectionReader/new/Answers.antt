@@ -18,9 +18,10 @@ invariant_of-result c =
         part_low = omega (arith, part.low);
         most_is = most.value ∙ ap (λ (n : ℕ). Some n) m;
         most_high = omega (arith, most.high);
-        capacity = omega (arith, c.in_ok-kept.ensures.capacity, m);
         bytes = rw f (omega (arith, m));
         count = rw f (omega (arith, m));
       };
-      known = tt;
+      known = λ e. absurd cc;
+      idle = λ e. absurd cc;
+      left = λ e. absurd cc;
     }

@@ -1,10 +1,9 @@
-use Rattle.std.proofs.Common.{rules, arith, ◌≡◌, ◌+◌, length, ℕ, sym, subst}
-use Rattle.bh_fields.specs.declared.walk.Judged.TheVariants as judged
+use Rattle.std.proofs.Common.{arith, ℕ, subst, sym}
+use Rattle.bh_spec.specs.declared.Judged.TheVariants as judged
 use Rattle.bh_fields.specs.declared.walk.Phase.TheVariants as phases
-use Rattle.bh_fields.specs.Points.{Point, point_of, NamedState, Moves}
+use Rattle.bh_fields.specs.Points.{Point, point_of, NamedAt, NamedState, Moves}
 use Rattle.bh_fields.proofs.Moves.{named_whole}
 use Rattle.bh_fields.proofs.Bytes.{name_begun, start_fits}
-use Rattle.bh_fields.proofs.Changes.{with_lines, of_used}
 use Rattle.bh_fields.proofs.walk.Walk.begin_name.Goals as goal
 
 pub start_line-requires-clause-spare : goal.start_line-requires-clause-spare
@@ -18,13 +17,12 @@ start_line-requires-clause-free c =
 pub returns-then-long-eq0 : goal.returns-then-long-eq0
 returns-then-long-eq0 c =
     let p : Point = point_of c.args.self.now in
-    named_whole p c.args.width c.requires.sized (subst (λ (n : ℕ). NamedState p n c.args.width) c.if-long-eq0.true c.requires.state)
+    subst (λ (n : ℕ). Moves judged.Whole (NamedAt p n c.args.width) p phases.Whole p) (sym c.if-long-eq0.true)
+    (named_whole p c.args.width c.requires.sized (subst (λ (n : ℕ). NamedState p n c.args.width) c.if-long-eq0.true c.requires.state))
 
 pub returns : goal.returns
 returns c =
     let p : Point = point_of c.args.self.now in
     let e = c.start_line.ensures in
-    let at : c.len-self.result ≡ length p.kept = search rules in
-    subst (λ (x : ℕ). Moves judged.More p (phases.Name c.args.long) (with_lines c.start_line.new.self (of_used (p.used + (c.args.width + c.args.long)) x p))) (sym at)
-    (name_begun p c.args.long c.args.width c.start_line.new.self c.requires.sized c.requires.state (omega arith) c.requires.width
-    (record { lines = e.lines; making = e.making; spare = e.spare; free = e.free }))
+    name_begun p c.args.long c.args.width c.start_line.new.self c.requires.sized c.requires.state (omega arith) c.requires.width
+    (record { lines = e.lines; making = e.making; spare = e.spare; free = e.free })

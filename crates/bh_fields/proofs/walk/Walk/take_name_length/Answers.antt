@@ -1,39 +1,28 @@
-use Rattle.std.proofs.Common.{rules, arith, ◌≡◌, ◌-◌, ◌++◌, ◌∷◌, [], Some, length, ℕ, List, Option, refl, sym, ap, subst, ◌∙◌, vec_len, vec_capacity}
+use Rattle.std.proofs.Common.{arith, ◌≡◌, ◌-◌, ◌++◌, ◌∷◌, [], Some, ℕ, List, Option, refl, sym, ap, subst, ◌∙◌}
 use Rattle.bh_spec.specs.declared.Allowed.{Allowed}
 use Rattle.bh_spec.specs.Integers.{SomeBegins, byte_count}
 use Rattle.bh_spec.specs.Canonical.{greatest}
 use Rattle.bh_varint.specs.Step.{IsWhole, GoesOn}
-use Rattle.bh_fields.specs.declared.walk.Judged.TheVariants as judged
+use Rattle.bh_spec.specs.declared.Judged.TheVariants as judged
 use Rattle.bh_fields.specs.declared.walk.Phase.{Phase}
+use Rattle.bh_fields.specs.declared.walk.Phase.TheVariants as phases
 use Rattle.bh_fields.specs.Sets.{names_set, free_room}
-use Rattle.bh_fields.specs.Points.{Point, point_of, part_of, NamedState, IsStep}
+use Rattle.bh_fields.specs.Points.{Point, point_of, RestOf, NamedAt, part_of, NamedState, IsStep}
+use Rattle.bh_fields.specs.Bytewise.{Steps}
+use Rattle.bh_spec.specs.declared.Part.TheVariants as parts
 use Rattle.bh_spec.proofs.Widths.{count_1}
-use Rattle.bh_fields.proofs.Moves.{line_more, line_whole, line_limit, line_dead}
-use Rattle.bh_fields.proofs.Changes.{line_fits, with_number, moved, part_is}
+use Rattle.bh_fields.proofs.Moves.{line_more, line_step, line_whole, line_limit, line_dead}
+use Rattle.bh_fields.proofs.Changes.{with_number, moved, part_is}
 use Rattle.bh_fields.proofs.walk.Walk.take_name_length.Goals as goal
-
-pub push_reserved-requires : goal.push_reserved-requires
-push_reserved-requires c =
-    let p : Point = point_of c.args.self.now in
-    let long : vec_len c.args.self.now.kept ≡ length p.kept = search rules in
-    omega (arith, long, line_fits p c.requires.sized c.requires.state)
-
-pub push_reserved-requires-in-Value : goal.push_reserved-requires-in-Value
-push_reserved-requires-in-Value c =
-    let p : Point = point_of c.args.self.now in
-    let long : vec_len c.args.self.now.kept ≡ length p.kept = search rules in
-    omega (arith, long, line_fits p c.requires.sized c.requires.state)
 
 pub returns-in-More : goal.returns-in-More
 returns-in-More c =
     let p : Point = point_of c.args.self.now in
     let set : c.name_set-within.result ≡ names_set p.form (part_of p.limits) (Some (p.total - p.used)) =
     c.name_set-within.ensures ∙ ap (λ (x : ℕ). names_set p.form x (Some (p.total - p.used))) (part_is p.limits c.part.result c.part.ensures.value) in
-    let k = c.push_reserved.new.self in
-    subst (λ (phase : Phase). IsStep judged.More p c.args.byte phase (with_number c.judge.new.number k.items (vec_capacity k) p)) (sym c.requires.phase)
-    (line_more p c.args.byte c.judge.new.number k.items (vec_capacity k) c.requires.sized c.requires.state
-    (subst (λ (s : Allowed). GoesOn s (p.number ++ c.args.byte ∷ [])) set c.in-More.ensures.judges)
-    c.in-More.ensures.kept c.push_reserved.ensures.items c.push_reserved.ensures.capacity)
+    subst (λ (phase : Phase). IsStep judged.More phases.NameLength p c.args.byte phase (with_number c.judge.new.number p)) (sym c.requires.phase)
+    (line_more p c.args.byte c.judge.new.number c.requires.sized c.requires.state
+    (subst (λ (s : Allowed). GoesOn s (p.number ++ c.args.byte ∷ [])) set c.in-More.ensures.judges) c.in-More.ensures.kept)
 
 pub returns-in-Limit : goal.returns-in-Limit
 returns-in-Limit c =
@@ -43,7 +32,7 @@ returns-in-Limit c =
     let free : c.name_set-free.result ≡ names_set p.form greatest (free_room p.form (p.total - p.used)) =
     c.name_set-free.ensures ∙ ap (λ (x : Option ℕ). names_set p.form greatest x) c.room_without_limits.ensures in
     let bytes : List ℕ = p.number ++ c.args.byte ∷ [] in
-    subst (λ (x : List ℕ). IsStep judged.Limit p c.args.byte c.args.self.now.phase (with_number x p.kept p.capacity p)) (sym c.in-Limit.ensures.kept)
+    subst (λ (x : List ℕ). IsStep judged.Limit phases.NameLength p c.args.byte c.args.self.now.phase (with_number x p)) (sym c.in-Limit.ensures.kept)
     (line_limit p c.args.byte c.args.self.now.phase c.requires.sized c.requires.state
     (λ s. c.in-Limit.ensures.judges.0 (subst (λ (x : Allowed). SomeBegins x bytes) (sym set) s))
     (subst (λ (x : Allowed). SomeBegins x bytes) free c.in-Limit.ensures.judges.1))
@@ -56,7 +45,7 @@ returns-in-Dead c =
     let free : c.name_set-free.result ≡ names_set p.form greatest (free_room p.form (p.total - p.used)) =
     c.name_set-free.ensures ∙ ap (λ (x : Option ℕ). names_set p.form greatest x) c.room_without_limits.ensures in
     let bytes : List ℕ = p.number ++ c.args.byte ∷ [] in
-    subst (λ (x : List ℕ). IsStep judged.Dead p c.args.byte c.args.self.now.phase (with_number x p.kept p.capacity p)) (sym c.in-Dead.ensures.kept)
+    subst (λ (x : List ℕ). IsStep judged.Dead phases.NameLength p c.args.byte c.args.self.now.phase (with_number x p)) (sym c.in-Dead.ensures.kept)
     (line_dead p c.args.byte c.args.self.now.phase c.requires.sized c.requires.state
     (λ s. c.in-Dead.ensures.judges.0 (subst (λ (x : Allowed). SomeBegins x bytes) (sym set) s))
     (λ s. c.in-Dead.ensures.judges.1 (subst (λ (x : Allowed). SomeBegins x bytes) (sym free) s)))
@@ -69,16 +58,20 @@ begin_name-requires-clause-state c =
     let p : Point = point_of c.args.self.now in
     let set : c.name_set-within.result ≡ names_set p.form (part_of p.limits) (Some (p.total - p.used)) =
     c.name_set-within.ensures ∙ ap (λ (x : ℕ). names_set p.form x (Some (p.total - p.used))) (part_is p.limits c.part.result c.part.ensures.value) in
-    let k = c.push_reserved-in-Value.new.self in
-    subst (λ (w : ℕ). NamedState (with_number c.judge.new.number k.items (vec_capacity k) p) c.in-Value.value w) (sym c.bytes.ensures)
-    (subst (λ (x : List ℕ). NamedState (with_number x k.items (vec_capacity k) p) c.in-Value.value (byte_count c.in-Value.width)) (sym c.in-Value.ensures.kept)
-    (line_whole p c.args.byte c.in-Value.value c.in-Value.width k.items (vec_capacity k) c.requires.sized c.requires.state
-    (subst (λ (s : Allowed). IsWhole s (p.number ++ c.args.byte ∷ []) c.in-Value.value c.in-Value.width) set c.in-Value.ensures.judges)
-    c.push_reserved-in-Value.ensures.items))
+    subst (λ (w : ℕ). NamedState (with_number c.judge.new.number p) c.in-Value.value w) (sym c.bytes.ensures)
+    (subst (λ (x : List ℕ). NamedState (with_number x p) c.in-Value.value (byte_count c.in-Value.width)) (sym c.in-Value.ensures.kept)
+    (line_whole p c.args.byte c.in-Value.value c.in-Value.width c.requires.sized c.requires.state
+    (subst (λ (s : Allowed). IsWhole s (p.number ++ c.args.byte ∷ []) c.in-Value.value c.in-Value.width) set c.in-Value.ensures.judges)))
 
 pub returns-in-Value : goal.returns-in-Value
 returns-in-Value c =
     let p : Point = point_of c.args.self.now in
-    let k = c.push_reserved-in-Value.new.self in
-    moved c.begin_name.result p (with_number c.judge.new.number k.items (vec_capacity k) p) c.args.byte c.begin_name.new.self.phase (point_of c.begin_name.new.self)
-    (record { limits = refl; form = refl; place = refl }) c.push_reserved-in-Value.ensures.items c.begin_name.ensures
+    let set : c.name_set-within.result ≡ names_set p.form (part_of p.limits) (Some (p.total - p.used)) =
+    c.name_set-within.ensures ∙ ap (λ (x : ℕ). names_set p.form x (Some (p.total - p.used))) (part_is p.limits c.part.result c.part.ensures.value) in
+    let q : Point = with_number c.judge.new.number p in
+    moved c.begin_name.result (NamedAt q c.in-Value.value c.bytes.result) phases.NameLength p q c.args.byte c.begin_name.new.self.phase (point_of c.begin_name.new.self)
+    (record { limits = refl; form = refl; place = refl })
+    (subst (λ (w : ℕ). Steps (RestOf phases.NameLength p) (NamedAt q c.in-Value.value w) parts.NameLength c.args.byte) (sym c.bytes.ensures)
+    (line_step p c.args.byte c.in-Value.value c.in-Value.width c.judge.new.number
+    (subst (λ (s : Allowed). IsWhole s (p.number ++ c.args.byte ∷ []) c.in-Value.value c.in-Value.width) set c.in-Value.ensures.judges)))
+    c.begin_name.ensures
