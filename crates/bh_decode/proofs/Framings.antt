@@ -22,13 +22,13 @@ framed_of t (zero, h) = ((Request, Known), h.spelled)
 framed_of t (suc zero, h) = ((Response, Known), h.spelled)
 framed_of t (suc (suc zero), h) = ((Request, Indeterminate), h.spelled)
 framed_of t (suc (suc (suc zero)), h) = ((Response, Indeterminate), h.spelled)
-framed_of t (suc (suc (suc (suc n))), h) = absurd (omega (arith, h.within))
+framed_of t (suc (suc (suc (suc n))), h) = absurd (omega (arith, h.valid))
 
 of_framed : (t : Text) → SomeOf IsFramed t → SomeOf (NumberOf parts.Framing 3) t
-of_framed t ((Request, Known), h) = (0, record { within = omega arith; spelled = h })
-of_framed t ((Response, Known), h) = (1, record { within = omega arith; spelled = h })
-of_framed t ((Request, Indeterminate), h) = (2, record { within = omega arith; spelled = h })
-of_framed t ((Response, Indeterminate), h) = (3, record { within = omega arith; spelled = h })
+of_framed t ((Request, Known), h) = (0, record { valid = omega arith; spelled = h })
+of_framed t ((Response, Known), h) = (1, record { valid = omega arith; spelled = h })
+of_framed t ((Request, Indeterminate), h) = (2, record { valid = omega arith; spelled = h })
+of_framed t ((Response, Indeterminate), h) = (3, record { valid = omega arith; spelled = h })
 
 framed_same : Same (SomeOf (NumberOf parts.Framing 3)) (SomeOf IsFramed)
 framed_same = record { on = framed_of; back = of_framed }

@@ -21,3 +21,5 @@ pub mod Openings
 pub mod Messages
 pub mod Inputs
 pub mod Existing
+pub mod Gathering
+pub mod Making

@@ -107,7 +107,7 @@ run_of long t (n, (x, y, number, (c, content), e)) = (
 of_run : (long : Part) (t : Text) → SomeOf (RunOf long) t → IsLengthThen long t
 of_run long t (c, run) =
     let s = run.spelled in
-    (length c, (s.0, s.1, record { within = number_small (length c) s.2.width s.2.fits; spelled = s.2 }, (c, record { length_is = refl; bytes = run.bytes; spelled = s.3 }), s.4))
+    (length c, (s.0, s.1, record { valid = number_small (length c) s.2.width s.2.fits; spelled = s.2 }, (c, record { length_is = refl; bytes = run.bytes; spelled = s.3 }), s.4))
 
 length_same : (long : Part) → Same (IsLengthThen long) (SomeOf (RunOf long))
 length_same long = record { on = run_of long; back = of_run long }

@@ -57,7 +57,8 @@ status_left (Some most) before = Some (most - before)
 -- behind a status, with so many interim responses before it: the section of an interim response and then the same again; or
 -- what stands behind the status of a final response
 abbrev pub AfterStatus : Bounds → Form → ℕ → ℕ → Text → Type 0
-AfterStatus L form before status t = ((status < 200) × ((fields : List Field) × (SectionOf L form Header fields then IsResponseText L form (suc before)) t))
+AfterStatus L form before status t = ((status < 200)
+    × ((fields : List Field) × (SectionOf L form Header fields then IsResponseText L form (suc before)) t))
     ⊎ ((200 ≤ status) × IsAfterStart L form t)
 
 -- zeros to the end
@@ -78,13 +79,15 @@ pub record EndOf (L : Bounds) (form : Form) (fields : List Field) (padding : ℕ
   pub spelled : (IsSection L form fields then IsRun parts.Padding (replicate padding 0)) t
 
 -- this content, trailer section, omission and padding
-pub record RestOf (L : Bounds) (form : Form) (content : List ℕ) (trailers : List Field) (omitted : Omitted) (padding : ℕ) (t : Text) : Type 0 where
+pub record RestOf (L : Bounds) (form : Form) (content : List ℕ) (trailers : List Field) (omitted : Omitted) (padding : ℕ)
+    (t : Text) : Type 0 where
   pub bytes : AreBytes content
   pub valid : AreTrailers trailers
   pub spelled : IsTail L form content trailers omitted padding t
 
 -- this header section, and then this rest
-pub record AfterOf (L : Bounds) (form : Form) (fields : List Field) (content : List ℕ) (trailers : List Field) (omitted : Omitted) (padding : ℕ) (t : Text) : Type 0 where
+pub record AfterOf (L : Bounds) (form : Form) (fields : List Field) (content : List ℕ) (trailers : List Field) (omitted : Omitted)
+    (padding : ℕ) (t : Text) : Type 0 where
   pub valid : AreHeaders fields
   pub spelled : (IsSection L form fields then RestOf L form content trailers omitted padding) t
 

@@ -20,6 +20,7 @@ SomeAnswer = (L : Bounds) (bytes : List ℕ) → ((a : Answer) → IsAnswer L by
 
 -- Whatever follows a refused byte, the answer is the same.
 abbrev pub FirstRefusedByte : Type 0
-FirstRefusedByte = (L : Bounds) (bytes others : List ℕ) (at : ℕ) (part : Part) → at < length others → take (at + 1) others ≡ take (at + 1) bytes
+FirstRefusedByte = (L : Bounds) (bytes others : List ℕ) (at : ℕ) (part : Part) → at < length others
+    → take (at + 1) others ≡ take (at + 1) bytes
     → (IsAnswer L bytes (refused (Dead at part)) → IsAnswer L others (refused (Dead at part)))
     × (IsAnswer L bytes (refused (Limit at part)) → IsAnswer L others (refused (Limit at part)))

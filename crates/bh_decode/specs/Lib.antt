@@ -6,3 +6,4 @@ pub mod Contexts
 pub mod Responses
 pub mod Answering
 pub mod Found
+pub mod Gathering

@@ -1,8 +1,8 @@
 -- Numbers with a greatest one.
 use Rattle.std.specs.Prelude.{ℕ, ◌≤◌}
 use Rattle.bh_spec.specs.declared.Part.{Part}
-use Rattle.bh_spec.specs.Texts.{Text, IsNumber}
+use Rattle.bh_spec.specs.Texts.{Text}
+use Rattle.bh_varint.specs.Numbers.{NumberThat}
 
-pub record NumberOf (part : Part) (most n : ℕ) (t : Text) : Type 0 where
-  pub within : n ≤ most
-  pub spelled : IsNumber part n t
+abbrev pub NumberOf : Part → ℕ → ℕ → Text → Type 0
+NumberOf part most = NumberThat part (λ n. n ≤ most)

@@ -18,7 +18,8 @@ use Rattle.bh_decode.specs.Grammar.{status_left}
 abbrev pub ResponsePartIs : Bounds → Form → ℕ → List ℕ → ResponsePart → Type 0
 ResponsePartIs L form before bytes (found.Interim interim taken) = (interim.status < 200) × (interim.fields.making ≡ None)
     × Ends (StatusOf (status_left L.interims before) interim.status then SectionOf L form Header interim.fields.lines) [] bytes taken
-ResponsePartIs L form before bytes (found.Final status taken) = (200 ≤ status) × Ends (StatusOf (status_left L.interims before) status) [] bytes taken
+ResponsePartIs L form before bytes (found.Final status taken) = (200 ≤ status)
+    × Ends (StatusOf (status_left L.interims before) status) [] bytes taken
 
 -- these interim responses, and this final status
 pub record OpeningOf (L : Bounds) (form : Form) (interims : List Interim) (status : ℕ) (t : Text) : Type 0 where

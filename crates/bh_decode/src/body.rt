@@ -7,8 +7,8 @@ ghost use Rattle.bh_decode.specs.Stops.{StopsAt, AtStop};
 
 use crate::content::read_run;
 use crate::fault::Fault;
-use crate::slices::behind;
 use bh_model::{Bytes, Form, Part};
+use bh_push::behind;
 use std::alloc::Global;
 
 /// Content that was read, and how many bytes its text has.

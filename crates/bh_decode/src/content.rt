@@ -6,9 +6,9 @@ ghost use Rattle.bh_decode.specs.Grammar.{ContentOf, RunOf};
 ghost use Rattle.bh_decode.specs.Stops.{IsCutThing, StopsAt};
 
 use crate::number::read_number;
-use crate::slices::behind;
 use crate::stop::Stop;
 use bh_model::Part;
+use bh_push::behind;
 use bh_varint::GREATEST;
 
 /// Bytes of content, and how many bytes they have with their length.

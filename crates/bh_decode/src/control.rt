@@ -1,5 +1,5 @@
 //! Control data at the front of bytes.
-ghost use Rattle.std.specs.Prelude.{◌≡◌, ◌≤◌, ◌^◌, [], length, IfOk, IfErr};
+ghost use Rattle.std.specs.Prelude.{◌≡◌, ◌≤◌, ◌^◌, [], length, option_map, IfOk, IfErr};
 ghost use Rattle.bh_spec.specs.Bounds.{no_bounds};
 ghost use Rattle.bh_model.specs.Values.{control_of, control_lent};
 ghost use Rattle.bh_spec.specs.Pieces.{Ends};
@@ -33,6 +33,16 @@ pub fn read_with(reader: &mut ControlReader, bytes: &[u8]) -> Result<usize, Stop
         }),
         ControlStep::Dead { offset, part } => Err(Stop::Dead { at: offset, part }),
         ControlStep::Limit { offset, part } => Err(Stop::Limit { at: offset, part }),
+    }
+}
+
+/// A copy of the control data, if there is some.
+pub fn own_some(alloc: Global, view: Option<ControlView<'_>>) -> Result<Option<Control>, NoMemory>
+    ensures { IfOk result (λ control. option_map control_of control ≡ option_map control_lent view.entry) }
+{
+    match view {
+        Some(view) => Ok(Some(own(alloc, view)?)),
+        None => Ok(None),
     }
 }
 

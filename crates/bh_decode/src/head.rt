@@ -6,10 +6,10 @@ ghost use Rattle.bh_decode.specs.Stops.{FailsFor};
 
 use crate::fault::Fault;
 use crate::section::read_section;
-use crate::slices::behind;
 use crate::tail::{Tail, read_tail};
 use bh_fields::SectionReader;
 use bh_model::{Fields, Form, Place};
+use bh_push::behind;
 use std::alloc::Global;
 
 /// What stands behind the control data.

@@ -9,10 +9,10 @@ ghost use Rattle.bh_decode.specs.Stops.{FailsFor};
 
 use crate::fault::Fault;
 use crate::section::read_section;
-use crate::slices::behind;
 use crate::status::read_status;
 use bh_fields::SectionReader;
 use bh_model::{Form, Interim, Interims, Place};
+use bh_push::behind;
 use std::alloc::Global;
 
 /// An interim response, or the final status, and how many bytes it has.

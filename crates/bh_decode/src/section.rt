@@ -3,7 +3,7 @@ ghost use Rattle.std.specs.Prelude.{◌≡◌, [], OnOk, IfOk, IfErr};
 ghost use Rattle.bh_spec.specs.Bounds.{no_bounds};
 ghost use Rattle.bh_spec.specs.Pieces.{Ends};
 ghost use Rattle.bh_fields.specs.Sections.{SectionOf};
-ghost use Rattle.bh_fields.specs.Views.{whole};
+ghost use Rattle.bh_spec.specs.Readings.{whole};
 ghost use Rattle.bh_decode.specs.Stops.{StopsAt};
 
 use crate::stop::Stop;

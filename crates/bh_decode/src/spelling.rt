@@ -2,20 +2,15 @@
 ghost use Rattle.std.specs.Prelude.{ℕ, ◌≡◌, ◌<◌, ◌≤◌, ◌^◌, Some, Err, length};
 ghost use Rattle.bh_spec.specs.Answers.{Answer, IsAnswer};
 ghost use Rattle.bh_spec.specs.Bounds.{IsWithin};
+ghost use Rattle.bh_decode.specs.declared.spelling.ReadError.TheVariants as errors;
 ghost use Rattle.bh_decode.specs.Answering.{Says, past_limit, SaysMessage, IsOnly, IsOnlyMessage};
 
 use crate::fault::Fault;
-use crate::slices::front;
 use crate::whole::read_whole;
-use bh_model::{Limits, Message, Omitted, Refusal};
-use std::alloc::Global;
-
-/// How the text of a message ends: what it leaves out, and how many zeros of padding it has (RFC 9292, section 3.8).
-#[derive(Clone, Copy, Debug, PartialEq, Eq)]
-pub struct End {
-    pub omitted: Omitted,
-    pub padding: u64,
-}
+use bh_base::NoMemory;
+use bh_model::{Limits, Message, Refusal};
+use bh_push::{End, front};
+use std::alloc::{AllocError, Global};
 
 /// A message that was read, and how its text ends.
 #[derive(Drop)]
@@ -31,6 +26,22 @@ pub enum ReadError {
     Refused(Refusal),
     /// Memory ran out.
     NoMemory,
+}
+
+impl From<NoMemory> for ReadError {
+    ghost from_gives = { λ _ error. error ≡ errors.NoMemory };
+
+    fn from(_: NoMemory) -> ReadError {
+        ReadError::NoMemory
+    }
+}
+
+impl From<AllocError> for ReadError {
+    ghost from_gives = { λ _ error. error ≡ errors.NoMemory };
+
+    fn from(_: AllocError) -> ReadError {
+        ReadError::NoMemory
+    }
 }
 
 /// Reads an input that isn't too long.
@@ -89,8 +100,8 @@ pub fn read_spelling(alloc: Global, bytes: &[u8], limits: &Limits) -> Result<Spe
     read_within(alloc, bytes, limits)
 }
 
-/// Reads an input that is one message. The answer is that of the definitions, except where memory runs out.
-pub fn read_message(alloc: Global, bytes: &[u8], limits: &Limits) -> Result<Message, ReadError>
+/// The same as `read_message`, in another way: the parts of the message one after the other, over the whole input. For tests.
+pub fn slow_read_message(alloc: Global, bytes: &[u8], limits: &Limits) -> Result<Message, ReadError>
     ensures says { SaysMessage limits.now bytes.now result }
     ensures only { (answer : Answer) → IsAnswer limits.now bytes.now answer → IsOnlyMessage answer result }
 {

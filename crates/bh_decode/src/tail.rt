@@ -9,9 +9,9 @@ use crate::body::read_body;
 use crate::fault::Fault;
 use crate::padding::read_padding;
 use crate::section::read_section;
-use crate::slices::behind;
 use bh_fields::SectionReader;
 use bh_model::{Bytes, Fields, Form, Omitted, Place};
+use bh_push::behind;
 use std::alloc::Global;
 
 /// A trailer section, and how many zeros stand behind it.

@@ -1,6 +1,6 @@
 use super::*;
 use bh_base::NoMemory;
-use bh_model::{Kind, Limits, Omitted, Part, Refusal};
+use bh_model::{Kind, Limits, Message, Omitted, Part, Refusal};
 use std::alloc::Global;
 
 /// A response with an interim response and trailers, in chunks.
@@ -144,4 +144,100 @@ fn a_message_is_read(rt: HostRuntime) {
         Ok(message) => assert_eq!(rt; message.content().as_slice(), b"zzz".as_slice()),
         Err(error) => assert!(rt; false, "{error:?}"),
     }
+}
+
+/// Requests and responses of both forms.
+const MESSAGES: [&[u8]; 4] = [
+    &RESPONSE,
+    &REQUEST,
+    b"\x00\x03GET\x05https\x00\x01/\x03\x01a\x00\x02hi\x03\x01t\x00\x00",
+    b"\x01\x40\x67\x03\x01l\x00\x40\xc8\x00\x02hi\x00\x00",
+];
+
+/// What is told of a message, or of what is read of one: bytes of content, and field lines.
+type Told = (usize, usize);
+
+/// What the reader of whole inputs tells.
+fn told_at_once(alloc: Global, bytes: &[u8]) -> Result<Told, ReadError> {
+    let message = slow_read_message(alloc, bytes, &Limits::default())?;
+    Ok((message.content().as_slice().len(), lines(&message)))
+}
+
+/// The field lines of a message.
+fn lines(message: &Message) -> usize {
+    let mut count = message
+        .fields()
+        .len()
+        .wrapping_add(message.trailers().len());
+    if let Some(interims) = message.interims() {
+        for i in 0..interims.len() {
+            count = count.wrapping_add(interims.at(i).fields.len());
+        }
+    }
+    count
+}
+
+/// What a decoder tells of pieces of `size` bytes, whose rests are pushed again.
+fn told_in_pieces(alloc: Global, bytes: &[u8], size: usize) -> Result<Told, ReadError> {
+    let mut decoder = Decoder::new(alloc, &Limits::default())?;
+    let (mut content, mut lines) = (0usize, 0usize);
+    let mut at = 0;
+    let mut end = size.min(bytes.len());
+    for _ in 0..bytes.len().wrapping_mul(2) {
+        let taken = match decoder.push(bytes.get(at..end).unwrap_or(b"")) {
+            Pushed::Need => end.wrapping_sub(at),
+            Pushed::Content { taken, bytes } => {
+                content = content.wrapping_add(bytes.len());
+                taken
+            }
+            Pushed::Interim { taken, .. } | Pushed::Head { taken } | Pushed::Trailers { taken } => {
+                lines = lines.wrapping_add(decoder.fields().len());
+                taken
+            }
+            Pushed::Refused(refusal) => return Err(ReadError::Refused(refusal)),
+        };
+        at = at.wrapping_add(taken);
+        if at == end {
+            end = end.wrapping_add(size).min(bytes.len());
+        }
+    }
+    match decoder.finish() {
+        Ok(_) => Ok((content, lines)),
+        Err(refusal) => Err(ReadError::Refused(refusal)),
+    }
+}
+
+/// Whether pieces of 1 to 7 bytes and the whole input tell the same as all at once.
+fn every_cut_agrees(alloc: Global, bytes: &[u8]) -> bool {
+    let told = told_at_once(alloc, bytes);
+    let mut agrees = told_in_pieces(alloc, bytes, bytes.len()) == told;
+    for size in 1..8 {
+        agrees &= told_in_pieces(alloc, bytes, size) == told;
+    }
+    agrees
+}
+
+#[test]
+fn every_cut_of_each_front_has_the_answer_of_the_whole(rt: HostRuntime) {
+    for bytes in MESSAGES {
+        for count in 0..bytes.len() + 1 {
+            assert!(rt; every_cut_agrees(rt.alloc(), &bytes[..count]), "{count}");
+        }
+    }
+}
+
+#[test]
+fn every_cut_of_a_message_with_a_changed_byte_has_the_answer_of_the_whole(
+    rt: HostRuntime,
+) -> Result<(), NoMemory> {
+    for bytes in MESSAGES {
+        for place in 0..bytes.len() {
+            for change in 1..=255u8 {
+                let mut changed = Vec::from_slice(rt.alloc(), bytes)?;
+                changed[place] ^= change;
+                assert!(rt; every_cut_agrees(rt.alloc(), &changed), "{place} {change}");
+            }
+        }
+    }
+    Ok(())
 }

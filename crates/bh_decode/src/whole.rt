@@ -11,9 +11,9 @@ use crate::fault::Fault;
 use crate::framing::read_framing;
 use crate::head::{AfterControl, read_after_control};
 use crate::opening::read_opening;
-use crate::slices::behind;
 use bh_fields::SectionReader;
 use bh_model::{Form, Kind, Limits, Message, Omitted};
+use bh_push::behind;
 use std::alloc::Global;
 
 /// A message that was read, what its text leaves out, and how many zeros of padding it has.

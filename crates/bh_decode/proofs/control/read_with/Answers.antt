@@ -1,28 +1,28 @@
-use Rattle.std.proofs.Common.{ℕ, List, ◌++◌, take, refl, sym, ap, ◌∙◌}
-use Rattle.bh_decode.proofs.ControlTexts.{control_cut, control_whole}
+use Rattle.std.proofs.Common.{[], sym, subst}
+use Rattle.bh_spec.specs.Bounds.{Bounds}
+use Rattle.bh_control.specs.Control.{Rest}
+use Rattle.bh_decode.proofs.ControlTexts.{control_begun, control_behind, control_cut}
 use Rattle.bh_decode.proofs.control.read_with.Goals as goal
 
 pub returns-in-Whole-clause-whole : goal.returns-in-Whole-clause-whole
 returns-in-Whole-clause-whole c =
-    let v = c.begin.ensures in
-    let w = c.in-Whole.ensures in
-    control_whole c.args.reader.now.limits c.push.new.self.limits c.push.new.self.control c.push.new.self.kept c.args.bytes.now c.in-Whole.taken
-    w.shows.within (w.limits ∙ v.limits) (w.kept ∙ ap (λ (x : List ℕ). x ++ take c.in-Whole.taken c.args.bytes.now) v.kept)
-    (rw w.limits (w.values c.in-Whole.taken refl))
+    let p = c.in-Whole.ensures in
+    let b = p.behind in
+    let w = c.push.new.self in
+    record {
+      within = p.shows.within;
+      whole = ((control_behind c.args.reader.now c.begin.new.self w _ c.begin.ensures b.limits b.leads.0).thing w.control).1 (subst (λ (L : Bounds). Rest L w w.control []) (sym b.limits) b.leads.1);
+    }
 
 pub returns-in-Need-clause-stops : goal.returns-in-Need-clause-stops
 returns-in-Need-clause-stops c =
-    let v = c.begin.ensures in
-    let w = c.in-Need.ensures in
-    control_cut c.args.reader.now.limits c.push.new.self.limits c.push.new.self.kept c.args.bytes.now c.next_part.result
-    (w.limits ∙ v.limits) (w.kept ∙ ap (λ (x : List ℕ). x ++ c.args.bytes.now) v.kept) c.next_part.ensures
+    let b = c.in-Need.ensures.behind in
+    control_cut c.args.reader.now c.begin.new.self c.push.new.self c.args.bytes.now c.next_part.result c.begin.ensures b.limits b.leads c.next_part.ensures
 
 pub returns-in-Dead-clause-stops : goal.returns-in-Dead-clause-stops
 returns-in-Dead-clause-stops c =
-    let v = c.begin.ensures in
-    rw (sym v.limits, sym v.kept) c.in-Dead.ensures.shows
+    ((control_begun c.args.reader.now c.begin.new.self c.args.bytes.now c.begin.ensures).dead c.in-Dead.offset c.in-Dead.part).1 c.in-Dead.ensures.shows
 
 pub returns-in-Limit-clause-stops : goal.returns-in-Limit-clause-stops
 returns-in-Limit-clause-stops c =
-    let v = c.begin.ensures in
-    rw (sym v.limits, sym v.kept) c.in-Limit.ensures.shows
+    ((control_begun c.args.reader.now c.begin.new.self c.args.bytes.now c.begin.ensures).limit c.in-Limit.offset c.in-Limit.part).1 c.in-Limit.ensures.shows

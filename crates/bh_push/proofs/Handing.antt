@@ -1,0 +1,206 @@
+-- What a walk says of a decoder, within the limit of the input.
+use Rattle.std.proofs.Common.{◌≡◌, ◌<◌, ◌≤◌, ◌+◌, ◌-◌, ℕ, Option, Some, None, List, [], ◌∷◌, length, take, refl, sym, ap, subst, ◌∙◌, inl, inr, ◌⊎◌, arith}
+use Rattle.bh_spec.specs.declared.Form.{Form}
+use Rattle.bh_spec.specs.declared.Part.{Part}
+use Rattle.bh_spec.specs.declared.Refusal.{Refusal}
+use Rattle.bh_spec.specs.declared.Refusal.TheVariants.{Dead, Limit, TooLong}
+use Rattle.bh_spec.specs.Bounds.{Bounds, no_bounds}
+use Rattle.bh_spec.specs.Pieces.{SomeOf}
+use Rattle.bh_spec.proofs.Within.{some_within}
+use Rattle.bh_fields.specs.Middle.{SectionView, Rest as section_rest}
+use Rattle.bh_spec.specs.Items.{Item, interim_response, head, content_byte, trailer_section, ending}
+use Rattle.bh_spec.specs.Runs.{Takes}
+use Rattle.bh_push.specs.declared.course.Course.{Course}
+use Rattle.bh_push.specs.declared.course.Stage.{Stage}
+use Rattle.bh_push.specs.declared.course.Stage.TheVariants as stages
+use Rattle.bh_push.specs.declared.body.Phase.{Phase}
+use Rattle.bh_push.specs.declared.body.Phase.TheVariants as phases
+use Rattle.bh_push.specs.Bodies.{at_of}
+use Rattle.bh_push.specs.Decoders.{Rest}
+use Rattle.bh_push.specs.Standing.{Comes, LinesAre, EndsWith}
+use Rattle.bh_push.proofs.Walking.{lines_here}
+use Rattle.std.proofs.lemmas.Bool.{cases_lt}
+use Rattle.bh_push.specs.Courses.{shown_head, shown_lines, InSection, LinesKept, Stays, IsFull, IsDeadAt, IsLimitAt, at_by, place_of, IsSection, IsOpenBy, IsOpen, Walked}
+use Rattle.bh_push.specs.Hands.{Held, IsInSection, Handed, IsLong, Keeps, IsPrompt}
+use Rattle.bh_push.specs.Pushes.{DecoderView, Refuses, refused_at, refused_view}
+use Rattle.bh_push.proofs.Inputs.{Fronted, front_long, front_of_front, dead_longer, limit_longer}
+
+abbrev pub view : Course → ℕ → Option Refusal → DecoderView
+view c taken refusal = record { limits = c.limits; at = place_of c; taken = taken; refusal = refusal }
+
+abbrev pub held : Course → ℕ → Option Refusal → Held
+held c taken refusal = record { decoder = view c taken refusal; head = shown_head c; lines = shown_lines c }
+
+-- the piece, as far as the limit of the input allows
+pub record Within (v : Course) (taken most : ℕ) (refusal : Option Refusal) (piece within : List ℕ) : Type 0 where
+  pub input : v.limits.input ≡ Some most
+  pub few : taken ≤ most
+  pub front : Fronted piece within (most - taken)
+  pub none : refusal ≡ None
+
+takes_so : (v w : Course) (piece within : List ℕ) (room count : ℕ) (yields : List Item) → Fronted piece within room → Walked v within count yields w
+    → Takes Rest v.limits (place_of v) piece count yields (place_of w)
+takes_so v w piece within room count yields f h =
+    let same : take count within ≡ take count piece = front_of_front piece within room count f h.inside in
+    let m : Comes v.limits (place_of v) (take count piece) yields (place_of w) =
+    subst (λ (x : List ℕ). Comes v.limits (place_of v) x yields (place_of w)) same h.comes in
+    record { inside = omega (arith, h.inside, front_long piece within room f); within = m.within; anyway = m.anyway; goes_on = m.goes_on }
+
+inside_at : (w : Course) (s : Stage) → InSection s → IsInSection (at_by s w)
+inside_at w stages.Framing h = absurd h
+inside_at w (stages.Control form) h = absurd h
+inside_at w (stages.Status form before) h = absurd h
+inside_at w (stages.BeforeInterim form before status) h = absurd h
+inside_at w (stages.Interim form before status) h = tt
+inside_at w (stages.BeforeHeader form) h = absurd h
+inside_at w (stages.Header form) h = tt
+inside_at w stages.Content h = absurd h
+inside_at w (stages.Trailers form) h = tt
+inside_at w (stages.Padding before) h = absurd h
+
+lines_so : (v w : Course) (yields : List Item) → LinesAre yields (InSection w.stage) (LinesKept v w) (shown_lines w)
+    → LinesAre yields (IsInSection (place_of w)) (shown_lines w ≡ shown_lines v) (shown_lines w)
+lines_so v w [] (inl h) = inl (inside_at w w.stage h)
+lines_so v w [] (inr h) = inr h.1
+lines_so v w (interim_response status fields ∷ q) h = h
+lines_so v w (head of fields ∷ q) h = h
+lines_so v w (content_byte x ∷ q) h = h.1
+lines_so v w (trailer_section fields ∷ q) h = h
+lines_so v w (ending omitted padding ∷ q) h = h.1
+
+pub handed_walk : (v w : Course) (taken most : ℕ) (refusal : Option Refusal) (piece within : List ℕ) (count : ℕ) (yields : List Item) → Within v taken most refusal piece within
+    → Walked v within count yields w → Handed (held v taken refusal) piece count yields (held w (taken + count) refusal)
+handed_walk v w taken most refusal piece within count yields g h = record {
+  took = record {
+    input = some_within v.limits.input most (taken + count) g.input (omega (arith, h.inside, g.few, front_long piece within (most - taken) g.front));
+    takes = takes_so v w piece within (most - taken) count yields g.front h;
+    limits = h.limits;
+    taken = refl;
+    refusal = g.none;
+  };
+  head = h.head;
+  lines = lines_so v w yields h.lines;
+}
+
+pub handed_whole : (v w : Course) (taken most : ℕ) (refusal : Option Refusal) (piece within : List ℕ) → Within v taken most refusal piece within → length piece ≤ length within
+    → Walked v within (length within) [] w → Handed (held v taken refusal) piece (length piece) [] (held w (taken + length within) refusal)
+handed_whole v w taken most refusal piece within g all h =
+    subst (λ (i : ℕ). Handed (held v taken refusal) piece i [] (held w (taken + length within) refusal)) (omega (arith, all, front_long piece within (most - taken) g.front))
+    (handed_walk v w taken most refusal piece within (length within) [] g h)
+
+pub ends_so : (v : Course) (taken most : ℕ) (refusal : Option Refusal) (piece within bytes : List ℕ) (count : ℕ) → Within v taken most refusal piece within → count ≤ length within
+    → EndsWith within count bytes → EndsWith piece count bytes
+ends_so v taken most refusal piece within bytes count g inside h =
+    record { some = h.some; front = h.front; ends = sym (front_of_front piece within (most - taken) count g.front inside) ∙ h.ends }
+
+pub long_so : (v w : Course) (taken most : ℕ) (refusal : Option Refusal) (piece within : List ℕ) (count : ℕ) → Within v taken most refusal piece within → IsFull within count (place_of w)
+    → IsLong (held v taken refusal) piece count (held w (taken + count) refusal)
+long_so v w taken most refusal piece within count g (inr h) = inr (inl h)
+long_so v w taken most refusal piece within count g (inl h) = at (cases_lt (length within) (length piece))
+  where
+    at : (length within < length piece) ⊎ (length piece ≤ length within) → IsLong (held v taken refusal) piece count (held w (taken + count) refusal)
+    at (inl lt) = inr (inr (g.input ∙ ap (λ (n : ℕ). Some n) (let e : most ≡ taken + count = omega (arith, h, lt, g.few, front_long piece within (most - taken) g.front) in e)))
+    at (inr ge) = inl (omega (arith, h, ge, front_long piece within (most - taken) g.front))
+
+-- ---- what is refused
+
+refused_so : (v w : Course) (taken n : ℕ) (r : Refusal) → n ≡ refused_at r → w.limits ≡ v.limits → view w n (Some r) ≡ refused_view (view v taken None) (place_of w) r
+refused_so v w taken n r e f =
+    ap (λ (L : Bounds). record { limits = L; at = place_of w; taken = n; refusal = Some r }) f
+    ∙ ap (λ (k : ℕ). record { limits = v.limits; at = place_of w; taken = k; refusal = Some r }) e
+
+stays_shown : (v w : Course) (taken n : ℕ) (given r : Option Refusal) → Stays v w → Keeps (held v taken given) (held w n r)
+stays_shown v w taken n given r s = record { head = s.head; lines = lines_so v w [] s.lines }
+
+pub refuses_more : (v w : Course) (taken most : ℕ) (refusal : Option Refusal) (piece within : List ℕ) → Within v taken most refusal piece within → length within < length piece
+    → Walked v within (length within) [] w
+    → let r = TooLong (taken + length within) in
+    Refuses refusal (view v taken refusal) piece r (view w (taken + length within) (Some r)) × Keeps (held v taken refusal) (held w (taken + length within) (Some r))
+refuses_more v w taken most None piece within g less h =
+    let full : most ≡ taken + length within = omega (arith, front_long piece within (most - taken) g.front, g.few, less) in (
+      (
+        (
+          length within,
+          refl,
+          g.input ∙ ap (λ (i : ℕ). Some i) full,
+          less,
+          (place_of w, takes_so v w piece within (most - taken) (length within) [] g.front h),
+        ),
+        (place_of w, refused_so v w taken (taken + length within) (TooLong (taken + length within)) refl h.limits),
+      ),
+      record { head = h.head; lines = lines_so v w [] h.lines },
+    )
+refuses_more v w taken most (Some r) piece within g less h = absurd (let no = g.none in cc)
+
+pub refuses_at : (v w : Course) (taken most : ℕ) (refusal : Option Refusal) (piece within : List ℕ) (offset : ℕ) (part : Part) → Within v taken most refusal piece within
+    → IsDeadAt v within offset part → Stays v w
+    → let r = Dead (taken + offset) part in
+    Refuses refusal (view v taken refusal) piece r (view w (taken + offset) (Some r)) × Keeps (held v taken refusal) (held w (taken + offset) (Some r))
+refuses_at v w taken most None piece within offset part g d s = (
+  (
+    (
+      offset,
+      refl,
+      some_within v.limits.input most (taken + offset + 1) g.input (omega (arith, g.few, d.refused.inside, front_long piece within (most - taken) g.front)),
+      dead_longer (SomeOf (Rest v.limits (place_of v))) (SomeOf (Rest no_bounds (place_of v))) piece within (most - taken) offset part g.front d,
+    ),
+    (place_of w, refused_so v w taken (taken + offset) (Dead (taken + offset) part) refl s.limits),
+  ),
+  stays_shown v w taken (taken + offset) None (Some (Dead (taken + offset) part)) s,
+)
+refuses_at v w taken most (Some r) piece within offset part g d s = absurd (let no = g.none in cc)
+
+pub refuses_limit : (v w : Course) (taken most : ℕ) (refusal : Option Refusal) (piece within : List ℕ) (offset : ℕ) (part : Part) → Within v taken most refusal piece within
+    → IsLimitAt v within offset part → Stays v w
+    → let r = Limit (taken + offset) part in
+    Refuses refusal (view v taken refusal) piece r (view w (taken + offset) (Some r)) × Keeps (held v taken refusal) (held w (taken + offset) (Some r))
+refuses_limit v w taken most None piece within offset part g d s = (
+  (
+    (
+      offset,
+      refl,
+      some_within v.limits.input most (taken + offset + 1) g.input (omega (arith, g.few, d.refused.inside, front_long piece within (most - taken) g.front)),
+      limit_longer (SomeOf (Rest v.limits (place_of v))) (SomeOf (Rest no_bounds (place_of v))) piece within (most - taken) offset part g.front d,
+    ),
+    (place_of w, refused_so v w taken (taken + offset) (Limit (taken + offset) part) refl s.limits),
+  ),
+  stays_shown v w taken (taken + offset) None (Some (Limit (taken + offset) part)) s,
+)
+refuses_limit v w taken most (Some r) piece within offset part g d s = absurd (let no = g.none in cc)
+
+-- once more
+pub refuses_again : (v : Course) (taken : ℕ) (refusal : Option Refusal) (given : Refusal) (piece : List ℕ) → refusal ≡ Some given
+    → Refuses refusal (view v taken refusal) piece given (view v taken refusal) × Keeps (held v taken refusal) (held v taken refusal)
+refuses_again v taken None given piece e = absurd cc
+refuses_again v taken (Some r) given piece e =
+    ((let same : given ≡ r = cc in same, refl), record { head = refl; lines = lines_so v v [] (lines_here v) })
+
+-- an offset within the front is within the limit
+pub fits : (v : Course) (taken most : ℕ) (refusal : Option Refusal) (piece within : List ℕ) (count : ℕ) → Within v taken most refusal piece within → count ≤ length within → taken + count ≤ most
+fits v taken most refusal piece within count g h = omega (arith, g.few, h, front_long piece within (most - taken) g.front)
+
+-- ---- no event stands where the decoder does
+
+section_prompt : (L : Bounds) (v : SectionView) → v.limits ≡ L → IsSection v → ((fields : _) × section_rest L v fields []) → ⊥
+section_prompt L v e s w = s.more w.0 (subst (λ (K : Bounds). section_rest K v w.0 []) (sym e) w.1)
+
+body_prompt : (L : Bounds) (phase : Phase) (form : Form) (number : List ℕ) → IsPrompt L (at_of phase form number)
+body_prompt L phases.Head form number = tt
+body_prompt L phases.Length form number = tt
+body_prompt L (phases.Run missing) form number = tt
+body_prompt L phases.Over form number = tt
+
+prompt_by : (c : Course) (s : Stage) → c.section.limits ≡ c.limits → IsOpenBy s c → IsPrompt c.limits (at_by s c)
+prompt_by c stages.Framing e o = tt
+prompt_by c (stages.Control form) e o = tt
+prompt_by c (stages.Status form before) e o = tt
+prompt_by c (stages.BeforeInterim form before status) e o = tt
+prompt_by c (stages.Interim form before status) e o = section_prompt c.limits c.section e o.1
+prompt_by c (stages.BeforeHeader form) e o = tt
+prompt_by c (stages.Header form) e o = section_prompt c.limits c.section e o
+prompt_by c stages.Content e o = body_prompt c.limits c.body.phase c.body.form c.body.number
+prompt_by c (stages.Trailers form) e o = section_prompt c.limits c.section e o
+prompt_by c (stages.Padding before) e o = tt
+
+pub open_prompt : (c : Course) (L : Bounds) → c.limits ≡ L → IsOpen c → IsPrompt L (place_of c)
+open_prompt c L e o = subst (λ (K : Bounds). IsPrompt K (place_of c)) e (prompt_by c c.stage o.course.section o.at)

@@ -1,0 +1,10 @@
+pub mod Completing
+pub mod Decoders
+pub mod Laws
+pub mod Bodies
+pub mod Pushes
+pub mod Standing
+pub mod Courses
+pub mod Hands
+pub mod Ending
+pub mod Feeding
