@@ -1,34 +1,28 @@
--- What a call did: it read, and then it wrote.
-use Rattle.std.proofs.Common.{◌≡◌, ◌≤◌, ◌+◌, ◌⊎◌, ℕ, Bool, true, false, ◌||◌, List, [], ◌++◌, length, Option, Some, None, IfSome, Result, refl, sym, ◌∙◌, ap, subst, append-nil, inl, inr, arith}
+-- What a call did: it read, and then it wrote. And what a port tells of it.
+use Rattle.std.proofs.Common.{◌≡◌, ◌≤◌, ◌+◌, ◌⊎◌, ℕ, Bool, true, false, ◌||◌, List, [], ◌++◌, length, Option, Some, None, IfSome, Ok, Err, Vec, refl, sym, ◌∙◌, ap, subst, append-nil, inl, inr, arith}
+use Rattle.std.specs.List.{list_any}
 use Rattle.std.specs.Io.KnownBytes.{Consumes, Appends, IsAtEnd}
+use Rattle.std.specs.declared.alloc.Global.{Global}
+use Rattle.std.proofs.lemmas.List.Folds.{list_any-append}
 use Rattle.bh_spec.specs.declared.Summary.{Summary}
 use Rattle.bh_spec.specs.declared.Refusal.{Refusal}
 use Rattle.bh_spec.specs.Bounds.{Bounds, IsWithin}
 use Rattle.bh_spec.specs.Answers.{refused, IsAnswer}
-use Rattle.bh_model.specs.Ranges.{AreLimits}
-use Rattle.bh_base.specs.declared.failed.Failed.{Failed}
-use Rattle.bh_base.specs.Steps.{Rose, ReadFacts, WriteFacts, ReadLeaves, WriteLeaves, Entry, ReadChain, WriteChain, both}
-use Rattle.bh_base.proofs.Chains.{read_chain, write_chain, read_chain_leaves, write_chain_leaves, reads_are_chain, writes_are_chain}
+use Rattle.bh_base.specs.Steps.{Step, Rose, Counts, is_bad_read, is_bad_write, meets_end, taken, given, met, reads, Asks, EndsReading, ReadsFirst, ReadFacts, WriteFacts, ReadLeaves, WriteLeaves, Entry, Chain, Either, Meanings}
+use Rattle.bh_base.specs.StepLaws.{taken-append, given-append, reads-append, Asks-append, reads_give_nothing, writes_take_nothing, writes_ask_nothing, reads_then_writes, EndsReading-append, quiet_on, stops_on, quiet_is, read_stops, write_stops, stayed, rose}
+use Rattle.bh_base.proofs.Chains.{joined, read_chain, write_chain, chain_facts, reads_are_chain, writes_are_chain}
+use Rattle.bh_encode.specs.Sending.{Sends}
 use Rattle.bh_canon.specs.declared.engine.CanonEnd.{CanonEnd}
 use Rattle.bh_canon.specs.declared.engine.CanonEnd.TheVariants.{Done, Refused, ReadFault, WriteFault, NoMemory}
-use Rattle.bh_canon.specs.Ends.{IsCanon, IsCutCanon, IsBeyond, Outcome, CanonRun, Told, CanonFacts}
-use Rattle.bh_canon.specs.Gathering.{IsEnough}
+use Rattle.bh_canon.specs.declared.gathering.GatherError.TheVariants as why
+use Rattle.bh_canon.specs.Buffers.{one_read}
+use Rattle.bh_canon.specs.Ends.{IsCanon, IsCutCanon, IsBeyond, Outcome, Stops, CanonRun, Told, IsTold}
+use Rattle.bh_canon.specs.Gathering.{IsEnough, Gathers}
 use Rattle.bh_canon.proofs.Beyond.{refused_beyond, not_whole_beyond}
 
 -- as many bytes were taken as a call takes
 abbrev pub IsTaken : Bounds → List ℕ → Type 0
 IsTaken L bytes = IsWithin L.input (length bytes) ⊎ IsBeyond L bytes
-
--- where reading to the end, or beyond the limit, stopped
-decided : (L : Bounds) (bytes : List ℕ) (met : Bool) (limit : ℕ) → L.input ≡ Some limit → IsEnough limit bytes met → ((met ≡ true) ⊎ IsBeyond L bytes) × IsTaken L bytes
-decided L bytes met limit e (inl h) = (inl h.0, inl (subst (λ (o : Option ℕ). IsWithin o (length bytes)) (sym e) h.1))
-decided L bytes met limit e (inr h) =
-    let beyond : IsBeyond L bytes = record { limit = limit; limit_is = e; long = h } in
-    (inr beyond, inr beyond)
-
-pub few_enough : (bytes : List ℕ) (met : Bool) (limit : ℕ) → IsEnough limit bytes met → length bytes ≤ limit + 1
-few_enough bytes met limit (inl h) = omega (arith, h.1)
-few_enough bytes met limit (inr h) = omega (arith, h)
 
 few_taken : (L : Bounds) (bytes : List ℕ) (limit : ℕ) → L.input ≡ Some limit → length bytes ≤ limit + 1 → IsTaken L bytes
 few_taken L bytes limit e low = by_length (cases (length bytes) limit low)
@@ -40,189 +34,185 @@ few_taken L bytes limit e low = by_length (cases (length bytes) limit low)
     by_length (inl h) = inl (subst (λ (o : Option ℕ). IsWithin o (length bytes)) (sym e) h)
     by_length (inr h) = inr (record { limit = limit; limit_is = e; long = h })
 
-module _ (L : Bounds) {S : Type 0} {reads writes : S → Bool → Result ℕ Failed → List ℕ → S → Type 0} {s t : S} where
-  -- nothing was written
-  pub only_read : (end : CanonEnd) (bytes : List ℕ) (met : Bool) → ReadChain reads s bytes met t → IsTaken L bytes → Outcome L end bytes [] met → CanonRun L reads writes s end t
-  only_read end bytes met chain few outcome = record { taken = bytes; sent = []; met = met; chain = reads_are_chain reads writes chain; few = few; outcome = outcome }
+enough_taken : (L : Bounds) (bytes : List ℕ) (end : Bool) (limit : ℕ) → L.input ≡ Some limit → IsEnough limit bytes end → ((end ≡ true) ⊎ IsBeyond L bytes) × (length bytes ≤ limit + 1)
+enough_taken L bytes end limit e (inl h) = (inl h.0, omega (arith, h.1))
+enough_taken L bytes end limit e (inr h) = (inr (record { limit = limit; limit_is = e; long = h }), omega (arith, h))
 
-  -- these bytes were written
-  pub then_written : {m : S} (end : CanonEnd) (bytes sent : List ℕ) → ReadChain reads s bytes true m → WriteChain writes m sent t → IsTaken L bytes → Outcome L end bytes sent true → CanonRun L reads writes s end t
-  then_written end bytes sent chain sends few outcome = record {
-    taken = bytes ++ [];
-    sent = sent;
-    met = true || false;
-    chain = both (reads_are_chain reads writes chain) (writes_are_chain reads writes sends);
-    few = subst (IsTaken L) (sym (append-nil bytes)) few;
-    outcome = subst (λ (l : List ℕ). Outcome L end l sent true) (sym (append-nil bytes)) outcome;
+-- one read more than bytes, so two more than the limit
+few_reads : (L : Bounds) (bytes : List ℕ) (n : ℕ) → IsTaken L bytes → n ≤ length bytes + 1 → IfSome L.input (λ limit. n ≤ limit + 2)
+few_reads L bytes n (inl h) turns = by_limit L.input h
+  where
+    by_limit : (o : Option ℕ) → IsWithin o (length bytes) → IfSome o (λ limit. n ≤ limit + 2)
+    by_limit None h = tt
+    by_limit (Some limit) h = omega (arith, h, turns)
+few_reads L bytes n (inr h) turns = subst (λ (o : Option ℕ). IfSome o (λ limit. n ≤ limit + 2)) (sym h.limit_is) (omega (arith, h.long, turns))
+
+-- ---- reads, and then writes
+
+module _ (L : Bounds) {S : Type 0} {read write : S → Step → S → Type 0} {left sent : S → Option (List ℕ)} {read_faults write_faults : S → ℕ} {ended : S → Bool}
+    (read_law : (s t : S) (x : Step) → read s x t → ReadFacts left read_faults ended s x t)
+    (write_law : (s t : S) (x : Step) → write s x t → WriteFacts sent write_faults s x t) where
+  -- nothing was written
+  only_read : {s t : S} (end : CanonEnd) (xs : List Step) → Chain read s xs t → Asks one_read xs → reads xs ≤ length (taken xs) + 1 → EndsReading xs → IsTaken L (taken xs) → Stops end xs
+      → Outcome L end (taken xs) [] (met xs) → CanonRun L (Either read write) s end t
+  only_read end xs chain asks turns none_behind few stops outcome = record {
+    steps = xs;
+    chain = reads_are_chain read write chain;
+    few = few;
+    asks = asks;
+    turns = turns;
+    bound = few_reads L (taken xs) (reads xs) few turns;
+    none_behind = none_behind;
+    order = subst ReadsFirst (append-nil xs) (reads_then_writes xs [] (read_chain read_law chain).only tt);
+    stops = stops;
+    outcome = subst (λ (l : List ℕ). Outcome L end (taken xs) l (met xs)) (sym (reads_give_nothing xs (read_chain read_law chain).only)) outcome;
   }
 
-if_some : {A : Type 0} {P Q : A → Type 0} (o : Option A) → ((a : A) → P a → Q a) → IfSome o P → IfSome o Q
-if_some None f h = tt
-if_some (Some a) f h = f a h
-
--- the whole input was taken
-whole_input : (before mid : Option (List ℕ)) (bytes : List ℕ) → Consumes before mid bytes → IsAtEnd mid → IfSome before (λ b. (b ≡ bytes) × (mid ≡ Some []))
-whole_input None mid bytes comes at_end = tt
-whole_input (Some b) None bytes comes at_end = absurd comes
-whole_input (Some b) (Some rest) bytes comes at_end = (comes ∙ ap (λ (l : List ℕ). bytes ++ l) at_end ∙ append-nil bytes, ap (λ (l : List ℕ). Some l) at_end)
-
--- the input begins with the bytes that were taken
-front_of_input : (before after : Option (List ℕ)) (bytes : List ℕ) → Consumes before after bytes → IfSome before (λ b. (rest : List ℕ) × (b ≡ bytes ++ rest))
-front_of_input None after bytes comes = tt
-front_of_input (Some b) None bytes comes = absurd comes
-front_of_input (Some b) (Some rest) bytes comes = (rest, comes)
-
-nothing_sent : (before after : Option (List ℕ)) → after ≡ before → Appends before after []
-nothing_sent None after e = tt
-nothing_sent (Some b) None e = absurd (cc)
-nothing_sent (Some b) (Some a) e = let same : a ≡ b = cc in same ∙ sym (append-nil b)
-
-module _ (L : Bounds) {S : Type 0} {reads : S → Bool → Result ℕ Failed → List ℕ → S → Type 0} {left sent : S → Option (List ℕ)} {read_faults write_faults : S → ℕ} {ended : S → Bool} {log : S → Option (List Entry)}
-    (read_law : (s t : S) (idle : Bool) (r : Result ℕ Failed) (bytes : List ℕ) → reads s idle r bytes t → ReadFacts left read_faults ended s idle r bytes t)
-    (ended_law : (s : S) → ended s ≡ true → IsAtEnd (left s))
-    (read_leaves : (s t : S) (idle : Bool) (r : Result ℕ Failed) (bytes : List ℕ) → reads s idle r bytes t → ReadLeaves sent write_faults log s r bytes t) where
-  pub all_taken : {s m : S} (bytes : List ℕ) → ReadChain reads s bytes true m → IfSome (left s) (λ b. (b ≡ bytes) × (left m ≡ Some []))
-  all_taken {s = s} {m = m} bytes chain = let r = read_chain read_law chain in whole_input (left s) (left m) bytes r.comes (ended_law m (r.end refl))
-
-  pub none_sent : {s m : S} (bytes : List ℕ) (met : Bool) → ReadChain reads s bytes met m → Appends (sent s) (sent m) []
-  none_sent {s = s} {m = m} bytes met chain = nothing_sent (sent s) (sent m) (read_chain_leaves read_law read_leaves chain).same_sent
-
-  -- refused behind the end, or beyond the limit
-  pub told_refused : {s m : S} (bytes : List ℕ) (met : Bool) (refusal : Refusal) → ReadChain reads s bytes met m → (met ≡ true) ⊎ IsBeyond L bytes → IsAnswer L bytes (refused refusal)
-      → IfSome (left s) (λ input. Told L (Refused refusal) input (left m) (sent s) (sent m))
-  told_refused {s = s} {m = m} bytes met refusal chain (inl e) answer =
-      let whole : ReadChain reads s bytes true m = subst (λ (b : Bool). ReadChain reads s bytes b m) e chain in
-      if_some (left s) (λ b h. (subst (λ (l : List ℕ). IsAnswer L l (refused refusal)) (sym h.0) answer, none_sent bytes met chain)) (all_taken bytes whole)
-  told_refused {s = s} {m = m} bytes met refusal chain (inr beyond) answer =
-      if_some (left s)
-      (λ b h. (subst (λ (l : List ℕ). IsAnswer L l (refused refusal)) (sym h.1) (refused_beyond L bytes h.0 beyond refusal answer), none_sent bytes met chain))
-      (front_of_input (left s) (left m) bytes (read_chain read_law chain).comes)
-
-  pub told_nothing : {s m : S} (end : CanonEnd) (bytes : List ℕ) (met : Bool) → (end ≡ ReadFault) ⊎ (end ≡ NoMemory) → ReadChain reads s bytes met m
-      → IfSome (left s) (λ input. Told L end input (left m) (sent s) (sent m))
-  told_nothing {s = s} {m = m} end bytes met which chain = by_option (left s)
+  -- something was
+  then_wrote : {s m t : S} (end : CanonEnd) (xs ys : List Step) (sends : List ℕ) → Chain read s xs m → Chain write m ys t → Asks one_read xs → reads xs ≤ length (taken xs) + 1 → EndsReading xs → IsTaken L (taken xs)
+      → Stops end (xs ++ ys) → given ys ≡ sends → Outcome L end (taken xs) sends (met xs) → CanonRun L (Either read write) s end t
+  then_wrote end xs ys sends chain writes asks turns none_behind few stops is outcome =
+      let only = (write_chain write_law writes).only in
+      let none = writes_take_nothing ys only in
+      let took : taken (xs ++ ys) ≡ taken xs = taken-append xs ys ∙ ap (λ (l : List ℕ). taken xs ++ l) none.0 ∙ append-nil (taken xs) in
+      let gave : given (xs ++ ys) ≡ sends = given-append xs ys ∙ ap (λ (l : List ℕ). l ++ given ys) (reads_give_nothing xs (read_chain read_law chain).only) ∙ is in
+      let end_met : met (xs ++ ys) ≡ met xs = list_any-append meets_end xs ys ∙ ap (λ (b : Bool). met xs || b) none.2 ∙ or_false (met xs) in
+      record {
+        steps = xs ++ ys;
+        chain = joined (reads_are_chain read write chain) (writes_are_chain read write writes);
+        few = subst (IsTaken L) (sym took) few;
+        asks = Asks-append one_read xs ys asks (writes_ask_nothing one_read ys only);
+        turns = omega (arith, reads-append xs ys, none.1, turns, ap length took);
+        bound = few_reads L (taken xs) (reads (xs ++ ys)) few (omega (arith, reads-append xs ys, none.1, turns));
+        none_behind = EndsReading-append xs ys none_behind only;
+        order = reads_then_writes xs ys (read_chain read_law chain).only only;
+        stops = stops;
+        outcome = rw (took, gave, end_met) outcome;
+      }
     where
-      by_end : (input : List ℕ) → (end ≡ ReadFault) ⊎ (end ≡ NoMemory) → Told L end input (left m) (sent s) (sent m)
-      by_end input (inl e) = subst (λ (x : CanonEnd). Told L x input (left m) (sent s) (sent m)) (sym e) (none_sent bytes met chain)
-      by_end input (inr e) = subst (λ (x : CanonEnd). Told L x input (left m) (sent s) (sent m)) (sym e) (none_sent bytes met chain)
-
-      by_option : (o : Option (List ℕ)) → IfSome o (λ input. Told L end input (left m) (sent s) (sent m))
-      by_option None = tt
-      by_option (Some input) = by_end input which
-
-module _ (L : Bounds) {S : Type 0} {reads writes : S → Bool → Result ℕ Failed → List ℕ → S → Type 0} {left sent : S → Option (List ℕ)} {read_faults write_faults : S → ℕ} {ended : S → Bool} {log : S → Option (List Entry)}
-    (read_law : (s t : S) (idle : Bool) (r : Result ℕ Failed) (bytes : List ℕ) → reads s idle r bytes t → ReadFacts left read_faults ended s idle r bytes t)
-    (ended_law : (s : S) → ended s ≡ true → IsAtEnd (left s))
-    (write_law : (s t : S) (idle : Bool) (r : Result ℕ Failed) (bytes : List ℕ) → writes s idle r bytes t → WriteFacts sent write_faults s idle r bytes t)
-    (read_leaves : (s t : S) (idle : Bool) (r : Result ℕ Failed) (bytes : List ℕ) → reads s idle r bytes t → ReadLeaves sent write_faults log s r bytes t)
-    (write_leaves : (s t : S) (idle : Bool) (r : Result ℕ Failed) (bytes : List ℕ) → writes s idle r bytes t → WriteLeaves left read_faults ended log s r bytes t) where
-  -- what was sent, where these bytes went out
-  sent_then : {s m t : S} (bytes text : List ℕ) → ReadChain reads s bytes true m → WriteChain writes m text t → Appends (sent s) (sent t) text
-  sent_then {s = s} {m = m} {t = t} bytes text chain sends =
-      subst (λ (o : Option (List ℕ)). Appends o (sent t) text) (read_chain_leaves read_law read_leaves chain).same_sent (write_chain write_law sends).goes
-
-  told_done : {s m t : S} (bytes text : List ℕ) (summary : Summary) → ReadChain reads s bytes true m → WriteChain writes m text t → IsCanon L bytes summary text
-      → IfSome (left s) (λ input. Told L (Done summary) input (left t) (sent s) (sent t))
-  told_done {s = s} bytes text summary chain sends canon =
-      if_some (left s)
-      (λ b h. (text, subst (λ (l : List ℕ). IsCanon L l summary text) (sym h.0) canon, (write_chain_leaves write_law write_leaves sends).same_left ∙ h.1, sent_then bytes text chain sends))
-      (all_taken L read_law ended_law read_leaves bytes chain)
-
-  told_cut : {s m t : S} (bytes text : List ℕ) → ReadChain reads s bytes true m → WriteChain writes m text t → IsCutCanon L bytes text
-      → IfSome (left s) (λ input. Told L WriteFault input (left t) (sent s) (sent t))
-  told_cut {s = s} bytes text chain sends canon =
-      if_some (left s)
-      (λ b h. (text, subst (λ (l : List ℕ). IsCutCanon L l text) (sym h.0) canon, (write_chain_leaves write_law write_leaves sends).same_left ∙ h.1, sent_then bytes text chain sends))
-      (all_taken L read_law ended_law read_leaves bytes chain)
-
-  -- a message: the end was met
-  ends_whole : {s m : S} (bytes text : List ℕ) (summary : Summary) (met : Bool) → (met ≡ true) ⊎ IsBeyond L bytes → IsCanon L bytes summary text → ReadChain reads s bytes met m → ReadChain reads s bytes true m
-  ends_whole {s = s} {m = m} bytes text summary met (inl e) canon chain = subst (λ (b : Bool). ReadChain reads s bytes b m) e chain
-  ends_whole bytes text summary met (inr beyond) canon chain = absurd (not_whole_beyond L bytes canon.message canon.omitted canon.padding beyond canon.answer)
+      or_false : (b : Bool) → (b || false) ≡ b
+      or_false true = refl
+      or_false false = refl
 
   -- ---- how each call ends
 
   -- the input was read to its end, or beyond the limit, and no read failed
-  abbrev Gathered : ℕ → List ℕ → S → S → Type 0
-  Gathered limit bytes s m = (met : Bool) × ReadChain reads s bytes met m × (read_faults m ≡ read_faults s) × IsEnough limit bytes met
+  module _ {s m : S} (v : Vec ℕ Global) (limit : ℕ) (e : L.input ≡ Some limit) (got : Gathers read limit one_read s (Ok v) m) where
+    taken_so : IsTaken L (taken got.steps)
+    taken_so = few_taken L (taken got.steps) limit e (enough_taken L (taken got.steps) (met got.steps) limit e got.gathered.2).1
 
-  pub facts_done : {s m t : S} (bytes text : List ℕ) (summary : Summary) (limit : ℕ) → L.input ≡ Some limit → AreLimits L → Gathered limit bytes s m
-      → IsCanon L bytes summary text → WriteChain writes m text t → write_faults t ≡ write_faults m
-      → CanonFacts L reads writes left sent read_faults write_faults s (Done summary) t
-  facts_done bytes text summary limit e l got canon sends quiet =
-      let d = decided L bytes got.0 limit e got.3 in
-      let chain = ends_whole bytes text summary got.0 d.0 canon got.1 in
-      let rl = read_chain_leaves read_law read_leaves chain in
-      let wl = write_chain_leaves write_law write_leaves sends in
-      record {
-        limits = l;
-        chain = then_written L (Done summary) bytes text chain sends d.1 (refl, canon);
-        told = told_done bytes text summary chain sends canon;
-        read_fault = λ e. absurd (cc);
-        write_fault = λ e. absurd (cc);
-        quiet_reads = λ no. wl.same_faults ∙ got.2;
-        quiet_writes = λ no. quiet ∙ rl.same_faults;
-      }
+    pub run_refused : (refusal : Refusal) → IsAnswer L v.items (refused refusal) → CanonRun L (Either read write) s (Refused refusal) m
+    run_refused refusal answer =
+        only_read (Refused refusal) got.steps got.chain got.asks got.turns got.none_behind taken_so got.gathered.1
+        (refl, subst (λ (l : List ℕ). IsAnswer L l (refused refusal)) (sym got.gathered.0) answer, (enough_taken L (taken got.steps) (met got.steps) limit e got.gathered.2).0)
 
-  pub facts_cut : {s m t : S} (bytes whole front back : List ℕ) (summary : Summary) (limit : ℕ) → L.input ≡ Some limit → AreLimits L → Gathered limit bytes s m
-      → IsCanon L bytes summary whole → whole ≡ front ++ back → WriteChain writes m front t → Rose (write_faults m) (write_faults t)
-      → CanonFacts L reads writes left sent read_faults write_faults s WriteFault t
-  facts_cut {t = t} bytes whole front back summary limit e l got canon parts sends rose =
-      let d = decided L bytes got.0 limit e got.3 in
-      let chain = ends_whole bytes whole summary got.0 d.0 canon got.1 in
-      let rl = read_chain_leaves read_law read_leaves chain in
-      let wl = write_chain_leaves write_law write_leaves sends in
-      let cut : IsCutCanon L bytes front = record { summary_of = summary; unsent = back; text = subst (λ (x : List ℕ). IsCanon L bytes summary x) parts canon } in
-      record {
-        limits = l;
-        chain = then_written L WriteFault bytes front chain sends d.1 (refl, cut);
-        told = told_cut bytes front chain sends cut;
-        read_fault = λ e. absurd (cc);
-        write_fault = λ e. subst (λ (n : ℕ). Rose n (write_faults t)) rl.same_faults rose;
-        quiet_reads = λ no. wl.same_faults ∙ got.2;
-        quiet_writes = λ no. absurd (no refl);
-      }
+    pub run_undecided : CanonRun L (Either read write) s NoMemory m
+    run_undecided = only_read NoMemory got.steps got.chain got.asks got.turns got.none_behind taken_so got.gathered.1 refl
 
-  pub facts_refused : {s m : S} (bytes : List ℕ) (refusal : Refusal) (limit : ℕ) → L.input ≡ Some limit → AreLimits L → Gathered limit bytes s m
-      → IsAnswer L bytes (refused refusal) → CanonFacts L reads writes left sent read_faults write_faults s (Refused refusal) m
-  facts_refused bytes refusal limit e l got answer =
-      let d = decided L bytes got.0 limit e got.3 in
-      let rl = read_chain_leaves read_law read_leaves got.1 in
-      record {
-        limits = l;
-        chain = only_read L (Refused refusal) bytes got.0 got.1 d.1 (refl, answer, d.0);
-        told = told_refused L read_law ended_law read_leaves bytes got.0 refusal got.1 d.0 answer;
-        read_fault = λ e. absurd (cc);
-        write_fault = λ e. absurd (cc);
-        quiet_reads = λ no. got.2;
-        quiet_writes = λ no. rl.same_faults;
-      }
+    -- a message: the end was met
+    is_whole : (text : List ℕ) (summary : Summary) → IsCanon L v.items summary text → met got.steps ≡ true
+    is_whole text summary canon = by_end (enough_taken L (taken got.steps) (met got.steps) limit e got.gathered.2).0
+      where
+        by_end : (met got.steps ≡ true) ⊎ IsBeyond L (taken got.steps) → met got.steps ≡ true
+        by_end (inl h) = h
+        by_end (inr beyond) = absurd (not_whole_beyond L v.items canon.message canon.omitted canon.padding (subst (IsBeyond L) got.gathered.0 beyond) canon.answer)
 
-  pub facts_fault : {s m : S} (bytes : List ℕ) (limit : ℕ) → L.input ≡ Some limit → AreLimits L → ReadChain reads s bytes false m → length bytes ≤ limit → Rose (read_faults s) (read_faults m)
-      → CanonFacts L reads writes left sent read_faults write_faults s ReadFault m
-  facts_fault bytes limit e l chain low rose =
-      let few : IsWithin L.input (length bytes) = subst (λ (o : Option ℕ). IsWithin o (length bytes)) (sym e) low in
-      let rl = read_chain_leaves read_law read_leaves chain in
-      record {
-        limits = l;
-        chain = only_read L ReadFault bytes false chain (inl few) (refl, refl, few);
-        told = told_nothing L read_law ended_law read_leaves ReadFault bytes false (inl refl) chain;
-        read_fault = λ e. rose;
-        write_fault = λ e. absurd (cc);
-        quiet_reads = λ no. absurd (no refl);
-        quiet_writes = λ no. rl.same_faults;
-      }
+    pub run_done : {t : S} {E : Type 0} (text : List ℕ) (summary : Summary) → IsCanon L v.items summary text → Sends {A = Unit {0}} {E = E} write m text (Ok tt) t → CanonRun L (Either read write) s (Done summary) t
+    run_done text summary canon sends =
+        then_wrote (Done summary) got.steps sends.steps text got.chain sends.chain got.asks got.turns got.none_behind taken_so
+        (quiet_on got.steps sends.steps got.gathered.1 sends.whole.1) (sym sends.whole.0)
+        (is_whole text summary canon, subst (λ (l : List ℕ). IsCanon L l summary text) (sym got.gathered.0) canon)
 
-  pub facts_no_memory : {s m : S} (bytes : List ℕ) (met : Bool) (limit : ℕ) → L.input ≡ Some limit → AreLimits L → ReadChain reads s bytes met m → length bytes ≤ limit + 1 → read_faults m ≡ read_faults s
-      → CanonFacts L reads writes left sent read_faults write_faults s NoMemory m
-  facts_no_memory bytes met limit e l chain low quiet =
-      let rl = read_chain_leaves read_law read_leaves chain in
-      record {
-        limits = l;
-        chain = only_read L NoMemory bytes met chain (few_taken L bytes limit e low) refl;
-        told = told_nothing L read_law ended_law read_leaves NoMemory bytes met (inr refl) chain;
-        read_fault = λ e. absurd (cc);
-        write_fault = λ e. absurd (cc);
-        quiet_reads = λ no. quiet;
-        quiet_writes = λ no. rl.same_faults;
-      }
+    pub run_cut : {t : S} {E : Type 0} {error : E} (text : List ℕ) (summary : Summary) → IsCanon L v.items summary text → Sends {A = Unit {0}} {E = E} write m text (Err error) t → CanonRun L (Either read write) s WriteFault t
+    run_cut text summary canon sends =
+        let parts : text ≡ given sends.steps ++ sends.part.0 = sends.part.1 in
+        then_wrote WriteFault got.steps sends.steps (given sends.steps) got.chain sends.chain got.asks got.turns got.none_behind taken_so
+        (stops_on is_bad_write got.steps sends.steps got.gathered.1 sends.part.2) refl
+        (is_whole text summary canon, record { summary_of = summary; unsent = sends.part.0; text = subst (λ (l : List ℕ). IsCanon L l summary (given sends.steps ++ sends.part.0)) (sym got.gathered.0) (subst (λ (x : List ℕ). IsCanon L v.items summary x) parts canon) })
+
+  pub run_fault : {s m : S} (limit : ℕ) → L.input ≡ Some limit → Gathers read limit one_read s (Err why.ReadFault) m → CanonRun L (Either read write) s ReadFault m
+  run_fault limit e got =
+      let few : IsWithin L.input (length (taken got.steps)) = subst (λ (o : Option ℕ). IsWithin o (length (taken got.steps))) (sym e) got.gathered.2 in
+      only_read ReadFault got.steps got.chain got.asks got.turns got.none_behind (inl few) got.gathered.0 (refl, got.gathered.1, few)
+
+  pub run_no_memory : {s m : S} (limit : ℕ) → L.input ≡ Some limit → Gathers read limit one_read s (Err why.NoMemory) m → CanonRun L (Either read write) s NoMemory m
+  run_no_memory limit e got =
+      only_read NoMemory got.steps got.chain got.asks got.turns got.none_behind (few_taken L (taken got.steps) limit e got.gathered.2) got.gathered.0 refl
+
+-- ---- what a port tells of a run
+
+none_gone : (before now : Option (List ℕ)) (bytes : List ℕ) → bytes ≡ [] → Appends before now bytes → Appends before now []
+none_gone before now bytes e h = subst (λ (l : List ℕ). Appends before now l) e h
+
+-- the whole input was taken
+whole_input : (b : List ℕ) (after : Option (List ℕ)) (bytes : List ℕ) → Consumes (Some b) after bytes → IsAtEnd after → (b ≡ bytes) × (after ≡ Some [])
+whole_input b None bytes comes at_end = absurd comes
+whole_input b (Some rest) bytes comes at_end = (comes ∙ ap (λ (l : List ℕ). bytes ++ l) at_end ∙ append-nil bytes, ap (λ (l : List ℕ). Some l) at_end)
+
+-- the input begins with the bytes that were taken
+front_of_input : (b : List ℕ) (after : Option (List ℕ)) (bytes : List ℕ) → Consumes (Some b) after bytes → (rest : List ℕ) × (b ≡ bytes ++ rest)
+front_of_input b None bytes comes = absurd comes
+front_of_input b (Some rest) bytes comes = (rest, comes)
+
+told_by : (L : Bounds) (end : CanonEnd) (input : List ℕ) (left before now : Option (List ℕ)) (bytes gone : List ℕ) (end_met : Bool) → Consumes (Some input) left bytes
+    → Appends before now gone → (end_met ≡ true → IsAtEnd left) → Outcome L end bytes gone end_met → Told L end input left before now
+told_by L (Done s) input left before now bytes gone end_met comes goes at_end h =
+    let all = whole_input input left bytes comes (at_end h.0) in
+    (gone, subst (λ (l : List ℕ). IsCanon L l s gone) (sym all.0) h.1, all.1, goes)
+told_by L (Refused refusal) input left before now bytes gone end_met comes goes at_end h = (by_end h.2, none_gone before now gone h.0 goes)
+  where
+    by_end : (end_met ≡ true) ⊎ IsBeyond L bytes → IsAnswer L input (refused refusal)
+    by_end (inl e) = subst (λ (l : List ℕ). IsAnswer L l (refused refusal)) (sym (whole_input input left bytes comes (at_end e)).0) h.1
+    by_end (inr beyond) =
+        let front = front_of_input input left bytes comes in
+        subst (λ (l : List ℕ). IsAnswer L l (refused refusal)) (sym front.1) (refused_beyond L bytes front.0 beyond refusal h.1)
+told_by L ReadFault input left before now bytes gone end_met comes goes at_end h = none_gone before now gone h.0 goes
+told_by L WriteFault input left before now bytes gone end_met comes goes at_end h =
+    let all = whole_input input left bytes comes (at_end h.0) in
+    (gone, subst (λ (l : List ℕ). IsCutCanon L l gone) (sym all.0) h.1, all.1, goes)
+told_by L NoMemory input left before now bytes gone end_met comes goes at_end h = none_gone before now gone h goes
+
+-- the counts of faults, by how the call ended
+abbrev pub RightCounts : CanonEnd → ℕ → ℕ → ℕ → ℕ → Type 0
+RightCounts end rb rn wb wn = (end ≡ ReadFault → Rose rb rn) × (end ≡ WriteFault → Rose wb wn) × ((end ≡ ReadFault → ⊥) → rn ≡ rb) × ((end ≡ WriteFault → ⊥) → wn ≡ wb)
+
+counts_by : (end : CanonEnd) (xs : List Step) (rb rn wb wn : ℕ) → Counts (list_any is_bad_read xs) rb rn → Counts (list_any is_bad_write xs) wb wn → Stops end xs → RightCounts end rb rn wb wn
+counts_by (Done s) xs rb rn wb wn r w h =
+    let q = quiet_is xs h in
+    (λ e. absurd (cc), λ e. absurd (cc), λ no. stayed (list_any is_bad_read xs) rb rn q.0 r, λ no. stayed (list_any is_bad_write xs) wb wn q.1 w)
+counts_by (Refused refusal) xs rb rn wb wn r w h =
+    let q = quiet_is xs h in
+    (λ e. absurd (cc), λ e. absurd (cc), λ no. stayed (list_any is_bad_read xs) rb rn q.0 r, λ no. stayed (list_any is_bad_write xs) wb wn q.1 w)
+counts_by ReadFault xs rb rn wb wn r w h =
+    let q = read_stops xs h in
+    (λ e. rose (list_any is_bad_read xs) rb rn q.0 r, λ e. absurd (cc), λ no. absurd (no refl), λ no. stayed (list_any is_bad_write xs) wb wn q.1 w)
+counts_by WriteFault xs rb rn wb wn r w h =
+    let q = write_stops xs h in
+    (λ e. absurd (cc), λ e. rose (list_any is_bad_write xs) wb wn q.0 w, λ no. stayed (list_any is_bad_read xs) rb rn q.1 r, λ no. absurd (no refl))
+counts_by NoMemory xs rb rn wb wn r w h =
+    let q = quiet_is xs h in
+    (λ e. absurd (cc), λ e. absurd (cc), λ no. stayed (list_any is_bad_read xs) rb rn q.0 r, λ no. stayed (list_any is_bad_write xs) wb wn q.1 w)
+
+module _ (L : Bounds) {S : Type 0} {read write : S → Step → S → Type 0} {left sent : S → Option (List ℕ)} {read_faults write_faults : S → ℕ} {ended : S → Bool} {log : S → Option (List Entry)}
+    (read_law : (s t : S) (x : Step) → read s x t → ReadFacts left read_faults ended s x t)
+    (ended_law : (s : S) → ended s ≡ true → IsAtEnd (left s))
+    (write_law : (s t : S) (x : Step) → write s x t → WriteFacts sent write_faults s x t)
+    (read_leaves : (s t : S) (x : Step) → read s x t → ReadLeaves sent write_faults log s x t)
+    (write_leaves : (s t : S) (x : Step) → write s x t → WriteLeaves left read_faults ended log s x t) where
+  abbrev means : Meanings S
+  means = record { left = left; sent = sent; read_faults = read_faults; write_faults = write_faults }
+
+  pub told_run : (s t : S) (end : CanonEnd) → CanonRun L (Either read write) s end t → IsTold L means s end t
+  told_run s t end run =
+      let f = chain_facts read_law read_leaves write_law write_leaves run.chain in
+      by_left (left s) f.comes f.goes (λ e. ended_law t (f.end e))
+    where
+      by_left : (o : Option (List ℕ)) → Consumes o (left t) (taken run.steps) → Appends (sent s) (sent t) (given run.steps) → (met run.steps ≡ true → IsAtEnd (left t))
+          → IfSome o (λ input. Told L end input (left t) (sent s) (sent t))
+      by_left None comes goes at_end = tt
+      by_left (Some input) comes goes at_end = told_by L end input (left t) (sent s) (sent t) (taken run.steps) (given run.steps) (met run.steps) comes goes at_end run.outcome
+
+  pub counted_run : (s t : S) (end : CanonEnd) → CanonRun L (Either read write) s end t → RightCounts end (read_faults s) (read_faults t) (write_faults s) (write_faults t)
+  counted_run s t end run =
+      let f = chain_facts read_law read_leaves write_law write_leaves run.chain in
+      counts_by end run.steps (read_faults s) (read_faults t) (write_faults s) (write_faults t) f.read_counts f.write_counts run.stops

@@ -1,5 +1,5 @@
 -- What a call of `canon` did, and how it ended.
-use Rattle.std.specs.Prelude.{◌≡◌, ◌+◌, ◌⊎◌, ℕ, Bool, true, false, List, [], ◌++◌, length, Option, Some, IfSome, Result}
+use Rattle.std.specs.Prelude.{◌≡◌, ◌+◌, ◌⊎◌, ◌≤◌, ℕ, Bool, true, false, List, [], ◌++◌, length, Option, Some, IfSome}
 use Rattle.std.specs.Io.KnownBytes.{Appends}
 use Rattle.bh_spec.specs.declared.Omitted.{Omitted}
 use Rattle.bh_spec.specs.declared.Summary.{Summary}
@@ -8,9 +8,8 @@ use Rattle.bh_spec.specs.Messages.{Message}
 use Rattle.bh_spec.specs.Answers.{Answer, whole, refused, IsAnswer}
 use Rattle.bh_spec.specs.Canonical.{canon}
 use Rattle.bh_spec.specs.Reports.{summary}
-use Rattle.bh_model.specs.Ranges.{AreLimits}
-use Rattle.bh_base.specs.declared.failed.Failed.{Failed}
-use Rattle.bh_base.specs.Steps.{Chain, Rose}
+use Rattle.bh_base.specs.Steps.{Step, Chain, Meanings, Rose, taken, given, met, reads, Asks, EndsReading, ReadsFirst, IsQuiet, StopsAt, is_bad_read, is_bad_write}
+use Rattle.bh_canon.specs.Buffers.{one_read}
 use Rattle.bh_canon.specs.declared.engine.CanonEnd.{CanonEnd}
 use Rattle.bh_canon.specs.declared.engine.CanonEnd.TheVariants.{Done, Refused, ReadFault, WriteFault, NoMemory}
 
@@ -39,23 +38,37 @@ pub record IsBeyond (L : Bounds) (bytes : List ℕ) : Type 0 where
 -- the end wasn't met. A refusal comes where it was met, or where one byte more than the limit allows was taken; and a read
 -- failed before it was met.
 abbrev pub Outcome : Bounds → CanonEnd → List ℕ → List ℕ → Bool → Type 0
-Outcome L (Done s) taken sent met = (met ≡ true) × IsCanon L taken s sent
-Outcome L (Refused refusal) taken sent met = (sent ≡ []) × IsAnswer L taken (refused refusal) × ((met ≡ true) ⊎ IsBeyond L taken)
-Outcome L ReadFault taken sent met = (sent ≡ []) × (met ≡ false) × IsWithin L.input (length taken)
-Outcome L WriteFault taken sent met = (met ≡ true) × IsCutCanon L taken sent
-Outcome L NoMemory taken sent met = sent ≡ []
+Outcome L (Done s) bytes sent end = (end ≡ true) × IsCanon L bytes s sent
+Outcome L (Refused refusal) bytes sent end = (sent ≡ []) × IsAnswer L bytes (refused refusal) × ((end ≡ true) ⊎ IsBeyond L bytes)
+Outcome L ReadFault bytes sent end = (sent ≡ []) × (end ≡ false) × IsWithin L.input (length bytes)
+Outcome L WriteFault bytes sent end = (end ≡ true) × IsCutCanon L bytes sent
+Outcome L NoMemory bytes sent end = sent ≡ []
 
--- The port went through a chain of calls, and the bytes of that chain say how the call ended. It took one byte more than the
--- limit allows at most.
-pub record CanonRun (L : Bounds) {S : Type 0} (reads writes : S → Bool → Result ℕ Failed → List ℕ → S → Type 0) (s : S) (end : CanonEnd) (t : S) : Type 0 where
-  pub taken : List ℕ
-  pub sent : List ℕ
-  pub met : Bool
-  pub chain : Chain reads writes s taken sent met t
-  pub few : IsWithin L.input (length taken) ⊎ IsBeyond L taken
-  pub outcome : Outcome L end taken sent met
+-- A call that failed was the last one, and it is the end.
+abbrev pub Stops : CanonEnd → List Step → Type 0
+Stops (Done s) steps = IsQuiet steps
+Stops (Refused refusal) steps = IsQuiet steps
+Stops ReadFault steps = StopsAt is_bad_read steps
+Stops WriteFault steps = StopsAt is_bad_write steps
+Stops NoMemory steps = IsQuiet steps
 
--- The same of a port that tells what is left: by its whole input, what is left of it, and what was sent before and is sent now.
+-- The port went through these calls, and their bytes say how the call of `canon` ended. They took one byte more than the
+-- limit allows at most. Each read asked for 1 to 8,192 bytes, and there was one read more than there were bytes at most, so
+-- two more than the limit of the input. Nothing was asked behind the end, nor sent before the last read.
+pub record CanonRun (L : Bounds) {S : Type 0} (step : S → Step → S → Type 0) (s : S) (end : CanonEnd) (t : S) : Type 0 where
+  pub steps : List Step
+  pub chain : Chain step s steps t
+  pub few : IsWithin L.input (length (taken steps)) ⊎ IsBeyond L (taken steps)
+  pub asks : Asks one_read steps
+  pub turns : reads steps ≤ length (taken steps) + 1
+  pub bound : IfSome L.input (λ limit. reads steps ≤ limit + 2)
+  pub none_behind : EndsReading steps
+  pub order : ReadsFirst steps
+  pub stops : Stops end steps
+  pub outcome : Outcome L end (taken steps) (given steps) (met steps)
+
+-- The same of a port that tells what is left: by its whole input, what is left of it, and what was sent before and is sent
+-- now.
 abbrev pub Told : Bounds → CanonEnd → List ℕ → Option (List ℕ) → Option (List ℕ) → Option (List ℕ) → Type 0
 Told L (Done s) input left before now = (text : List ℕ) × IsCanon L input s text × (left ≡ Some []) × Appends before now text
 Told L (Refused refusal) input left before now = IsAnswer L input (refused refusal) × Appends before now []
@@ -74,20 +87,10 @@ Completes L end input reads_before reads_now writes_before writes_now = (answer 
     → (Rose reads_before reads_now → ⊥) → (Rose writes_before writes_now → ⊥) → (end ≡ end_of answer (length input)) ⊎ (end ≡ NoMemory)
 
 -- A port that tells what is left tells these of a call.
-abbrev pub IsTold : Bounds → {S : Type 0} → (S → Option (List ℕ)) → (S → Option (List ℕ)) → S → CanonEnd → S → Type 0
-IsTold L left sent s end t = IfSome (left s) (λ input. Told L end input (left t) (sent s) (sent t))
+abbrev pub IsTold : Bounds → {S : Type 0} → Meanings S → S → CanonEnd → S → Type 0
+IsTold L port s end t = IfSome (port.left s) (λ input. Told L end input (port.left t) (port.sent s) (port.sent t))
 
 -- Of such a port: the call ended with the answer for its input.
-abbrev pub IsComplete : Bounds → {S : Type 0} → (S → Option (List ℕ)) → (S → ℕ) → (S → ℕ) → S → CanonEnd → S → Type 0
-IsComplete L left read_faults write_faults s end t = IfSome (left s) (λ input. Completes L end input (read_faults s) (read_faults t) (write_faults s) (write_faults t))
-
--- The chain, what a port tells, limits in their ranges, and the counts of faults; that the call is complete follows. A fault is the end only where its count rose in this call, and else the count stayed.
-pub record CanonFacts (L : Bounds) {S : Type 0} (reads writes : S → Bool → Result ℕ Failed → List ℕ → S → Type 0) (left sent : S → Option (List ℕ)) (read_faults write_faults : S → ℕ)
-    (s : S) (end : CanonEnd) (t : S) : Type 0 where
-  pub limits : AreLimits L
-  pub chain : CanonRun L reads writes s end t
-  pub told : IsTold L left sent s end t
-  pub read_fault : end ≡ ReadFault → Rose (read_faults s) (read_faults t)
-  pub write_fault : end ≡ WriteFault → Rose (write_faults s) (write_faults t)
-  pub quiet_reads : (end ≡ ReadFault → ⊥) → read_faults t ≡ read_faults s
-  pub quiet_writes : (end ≡ WriteFault → ⊥) → write_faults t ≡ write_faults s
+abbrev pub IsComplete : Bounds → {S : Type 0} → Meanings S → S → CanonEnd → S → Type 0
+IsComplete L port s end t = IfSome (port.left s)
+    (λ input. Completes L end input (port.read_faults s) (port.read_faults t) (port.write_faults s) (port.write_faults t))

@@ -1,5 +1,5 @@
 pub mod Gathering
-pub mod Writing
+pub mod Buffers
 pub mod Ends
 pub mod Deciding
 pub mod Laws

@@ -1,13 +1,15 @@
 //! The engine of `canon`.
-ghost use Rattle.std.specs.Prelude.{◌≡◌, ◌<◌, IfOk, length};
-ghost use Rattle.bh_base.specs.Steps.{Rose};
+ghost use Rattle.std.specs.Prelude.{◌≡◌, IfOk};
+ghost use Rattle.bh_base.specs.Steps.{Either, Meanings, Rose};
 ghost use Rattle.bh_model.specs.Ranges.{AreLimits};
-ghost use Rattle.bh_canon.specs.Ends.{CanonFacts, CanonRun, IsTold, IsComplete};
+ghost use Rattle.bh_canon.specs.Ends.{CanonRun, IsTold, IsComplete};
+ghost use Rattle.bh_canon.specs.Buffers.{IsBuffer};
 
 use crate::deciding::decide;
 use crate::gathering::{GatherError, gather};
-use bh_base::{NoMemory, Port, write_all};
+use bh_base::{NoMemory, Port};
 use bh_decode::ReadError;
+use bh_encode::{WriteFault, write_canonical};
 use bh_model::{Limits, Refusal, Summary};
 use std::alloc::Global;
 use std::marker::Model;
@@ -38,26 +40,27 @@ pub struct Engine {
 }
 
 impl Model for Engine {
-    ghost use Rattle.std.specs.Prelude.{◌<◌, length};
+    ghost use Rattle.bh_canon.specs.Buffers.{IsBuffer};
     ghost use Rattle.bh_spec.specs.Bounds.{Bounds};
 
     ghost Value = { Bounds };
 
     ghost view = { λ e. e.limits };
 
-    ghost invariant = { λ e. 0 < length e.buffer.items };
+    ghost invariant = { λ e. IsBuffer e.buffer.items };
 }
 
 /// Reads the port to its end, or until it has taken one byte more than the limit allows, decides, and then writes.
 fn answer<P: Port>(alloc: Global, port: &mut P, limits: &Limits, buffer: &mut [u8]) -> CanonEnd
-    requires { 0 < length buffer.old }
-    ensures { CanonFacts limits.now P.read_step P.write_step P.left P.sent P.read_faults P.write_faults port.old result port.new }
+    requires { IsBuffer buffer.old }
+    ensures limits { AreLimits limits.now }
+    ensures run { CanonRun limits.now (Either P.read_step P.write_step) port.old result port.new }
 {
     match gather(alloc, port, limits.input() as usize, buffer) {
         Ok(bytes) => match decide(alloc, &bytes, limits) {
-            Ok(output) => match write_all(port, &output.text) {
-                Ok(()) => CanonEnd::Done(output.summary),
-                Err(_) => CanonEnd::WriteFault,
+            Ok(accepted) => match write_canonical(port, &accepted.message) {
+                Ok(()) => CanonEnd::Done(accepted.summary),
+                Err(WriteFault) => CanonEnd::WriteFault,
             },
             Err(ReadError::Refused(refusal)) => CanonEnd::Refused(refusal),
             Err(ReadError::NoMemory) => CanonEnd::NoMemory,
@@ -86,9 +89,21 @@ impl Engine {
         ensures limits { AreLimits self.old }
 
         // What the port gave and got, by the bytes of its calls, and by what it tells of them.
-        ensures chain { CanonRun self.old P.read_step P.write_step port.old result port.new }
-        ensures told { IsTold self.old P.left P.sent port.old result port.new }
-        ensures complete { IsComplete self.old P.left P.read_faults P.write_faults port.old result port.new }
+        ensures chain { CanonRun self.old (Either P.read_step P.write_step) port.old result port.new }
+        ensures told { let means : Meanings P = record {
+          left = P.left;
+          sent = P.sent;
+          read_faults = P.read_faults;
+          write_faults = P.write_faults;
+        } in
+            IsTold self.old means port.old result port.new }
+        ensures complete { let means : Meanings P = record {
+          left = P.left;
+          sent = P.sent;
+          read_faults = P.read_faults;
+          write_faults = P.write_faults;
+        } in
+            IsComplete self.old means port.old result port.new }
 
         // The faults.
         ensures read_fault { result ≡ CanonEnd.ReadFault → Rose (P.read_faults port.old) (P.read_faults port.new) }

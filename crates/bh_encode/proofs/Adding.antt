@@ -1,0 +1,53 @@
+-- Texts that grow in memory, piece by piece.
+use Rattle.std.proofs.Common.{◌≡◌, ◌+◌, ℕ, List, [], ◌∷◌, ◌++◌, length, take, map, flat_map, get_or, Option, Some, unwrap_or, slice_get, sym, ap, ◌∙◌, append_assoc, append-nil}
+use Rattle.std.proofs.lemmas.List.{length-append, take_more}
+use Rattle.std.proofs.lemmas.Option.{slice_get_within, unwrap_or-slice_get}
+use Rattle.bh_spec.specs.declared.Form.TheVariants.{Known}
+use Rattle.bh_spec.specs.Integers.{int, byte_count, least_width}
+use Rattle.bh_spec.specs.Messages.{Field, Start, request, response}
+use Rattle.bh_spec.specs.Canonical.{string, lines, start, interim}
+use Rattle.bh_spec.proofs.Widths.{length-vi}
+use Rattle.bh_model.specs.declared.control_data.Control as stored
+use Rattle.bh_model.specs.declared.informational.Interim as held
+use Rattle.bh_model.specs.Values.{control_of, interim_of, control_in}
+use Rattle.bh_encode.proofs.Putting.{line_more}
+
+pub length-string : (bytes : List ℕ) → length (string bytes) ≡ byte_count (least_width (length bytes)) + length bytes
+length-string bytes = length-append (int (length bytes)) bytes ∙ ap (λ (n : ℕ). n + length bytes) (length-vi (length bytes) (least_width (length bytes)))
+
+-- one line more, in bytes and in text
+pub bytes_more : (fields : List Field) (i : ℕ) (field : Field) → slice_get fields i ≡ Some field
+    → length (lines (take (i + 1) fields)) ≡ length (lines (take i fields)) + (length (string field.name) + length (string field.value))
+bytes_more fields i field got =
+    ap length (sym (line_more fields i field got)) ∙ length-append (lines (take i fields)) (string field.name ++ string field.value)
+    ∙ ap (λ (n : ℕ). length (lines (take i fields)) + n) (length-append (string field.name) (string field.value))
+
+pub line_added : (text before after : List ℕ) (fields : List Field) (i : ℕ) (field : Field) → slice_get fields i ≡ Some field → before ≡ text ++ lines (take i fields)
+    → after ≡ (before ++ string field.name) ++ string field.value → after ≡ text ++ lines (take (i + 1) fields)
+line_added text before after fields i field got so_far e =
+    e ∙ append_assoc before (string field.name) (string field.value)
+    ∙ ap (λ (x : List ℕ). x ++ (string field.name ++ string field.value)) so_far
+    ∙ append_assoc text (lines (take i fields)) (string field.name ++ string field.value)
+    ∙ ap (λ (x : List ℕ). text ++ x) (line_more fields i field got)
+
+-- ---- what a message begins with
+
+abbrev pub interims_text : List held.Interim → List ℕ
+interims_text interims = flat_map (interim Known) (map interim_of interims)
+
+pub request_text : (a : Start) (c : stored.Control) → Some (control_of c) ≡ control_in a → start Known (request (control_of c)) ≡ start Known a
+request_text (request d) c e = let same : control_of c ≡ d = cc in ap (λ x. start Known (request x)) same
+request_text (response interims status) c e = absurd cc
+
+texts_more : (interims : List held.Interim) (one : held.Interim) → interims_text (interims ++ one ∷ []) ≡ interims_text interims ++ interim Known (interim_of one)
+texts_more [] one = append-nil (interim Known (interim_of one))
+texts_more (i ∷ interims) one = ap (λ (x : List ℕ). interim Known (interim_of i) ++ x) (texts_more interims one) ∙ sym (append_assoc (interim Known (interim_of i)) (interims_text interims) (interim Known (interim_of one)))
+
+pub interim_added : (text before after : List ℕ) (interims : List held.Interim) (i : ℕ) (one : held.Interim) → slice_get interims i ≡ Some one → before ≡ text ++ interims_text (take i interims)
+    → after ≡ before ++ interim Known (interim_of one) → after ≡ text ++ interims_text (take (i + 1) interims)
+interim_added text before after interims i one got so_far e =
+    let within = slice_get_within interims i one got in
+    let is_one : get_or interims i one ≡ one = sym (unwrap_or-slice_get interims i one) ∙ ap (λ (o : Option held.Interim). unwrap_or o one) got in
+    let more : interims_text (take (i + 1) interims) ≡ interims_text (take i interims) ++ interim Known (interim_of one) =
+    ap interims_text (take_more interims i one within ∙ ap (λ (x : held.Interim). take i interims ++ x ∷ []) is_one) ∙ texts_more (take i interims) one in
+    e ∙ ap (λ (x : List ℕ). x ++ interim Known (interim_of one)) so_far ∙ append_assoc text (interims_text (take i interims)) (interim Known (interim_of one)) ∙ ap (λ (x : List ℕ). text ++ x) (sym more)

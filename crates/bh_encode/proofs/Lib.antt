@@ -1,0 +1,7 @@
+pub mod Putting
+pub mod Together
+pub mod Chunks
+pub mod Sending
+pub mod Messages
+pub mod Canonicals
+pub mod Adding

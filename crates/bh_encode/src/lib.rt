@@ -1,0 +1,15 @@
+//! Writes messages: the canonical text as a stream, call by call, and the known-length text in memory.
+#![tactic(auto)]
+
+mod encoder;
+mod known;
+mod laws;
+mod parts;
+#[cfg(test)]
+mod tests;
+mod whole;
+
+pub use encoder::{AtContent, AtHead, Finished, StreamEncoder, WriteFault, begin};
+pub use known::write_known;
+pub use laws::{calls_send_canon, canon_is_read, known_is_read};
+pub use whole::write_canonical;
