@@ -1,9 +1,8 @@
 -- A command that ended as a call of `canon` did.
-use Rattle.std.proofs.Common.{◌≡◌, ℕ, Bool, false, List, [], Option, Some, None, IfSome, Result, refl, sym, ap, arith, append-nil, inl, inr}
+use Rattle.std.proofs.Common.{◌≡◌, ◌≤◌, ◌+◌, ℕ, List, [], Option, Some, None, IfSome, refl, sym, ap, arith, append-nil, inl, inr}
 use Rattle.std.specs.Io.KnownBytes.{Appends}
-use Rattle.bh_base.specs.declared.failed.Failed.{Failed}
-use Rattle.bh_base.specs.Steps.{Rose, none}
-use Rattle.bh_model.specs.Ranges.{default_bounds}
+use Rattle.bh_base.specs.Steps.{Step, Meanings, Rose, none}
+use Rattle.bh_spec.specs.Bounds.{Bounds, IsWithin}
 use Rattle.bh_canon.specs.declared.engine.CanonEnd.{CanonEnd}
 use Rattle.bh_canon.specs.declared.engine.CanonEnd.TheVariants as ends
 use Rattle.bh_canon.specs.Ends.{CanonRun, IsTold, IsComplete}
@@ -32,23 +31,23 @@ is_write_fault ends.ReadFault e = absurd cc
 is_write_fault ends.WriteFault e = refl
 is_write_fault ends.NoMemory e = absurd cc
 
-module _ {S : Type 0} {reads writes : S → Bool → Result ℕ Failed → List ℕ → S → Type 0} {left sent : S → Option (List ℕ)} {read_faults write_faults : S → ℕ} {s t : S} where
-  pub ended : (end : CanonEnd) → CanonRun default_bounds reads writes s end t
-      → IsTold default_bounds left sent s end t → IsComplete default_bounds left read_faults write_faults s end t
-      → (end ≡ ends.ReadFault → Rose (read_faults s) (read_faults t)) → (end ≡ ends.WriteFault → Rose (write_faults s) (write_faults t))
-      → ((end ≡ ends.ReadFault → ⊥) → read_faults t ≡ read_faults s) → ((end ≡ ends.WriteFault → ⊥) → write_faults t ≡ write_faults s)
-      → CanonExitFacts reads writes left sent read_faults write_faults s (exit_of end) t
+module _ {L : Bounds} {S : Type 0} {step : S → Step → S → Type 0} {port : Meanings S} {s t : S} where
+  pub ended : (end : CanonEnd) → CanonRun L step s end t
+      → IsTold L port s end t → IsComplete L port s end t
+      → (end ≡ ends.ReadFault → Rose (port.read_faults s) (port.read_faults t)) → (end ≡ ends.WriteFault → Rose (port.write_faults s) (port.write_faults t))
+      → ((end ≡ ends.ReadFault → ⊥) → port.read_faults t ≡ port.read_faults s) → ((end ≡ ends.WriteFault → ⊥) → port.write_faults t ≡ port.write_faults s)
+      → CanonExitFacts L step port s (exit_of end) t
   ended end chain told complete rf wf qr qw = record {
-    chain = ends_so end (λ x. CanonRun default_bounds reads writes s x t) chain;
-    told = ends_so end (λ x. IsTold default_bounds left sent s x t) told;
-    complete = ends_so end (λ x. IsComplete default_bounds left read_faults write_faults s x t) complete;
+    chain = ends_so end (λ x. CanonRun L step s x t) chain;
+    told = ends_so end (λ x. IsTold L port s x t) told;
+    complete = ends_so end (λ x. IsComplete L port s x t) complete;
     read_fault = λ e. rf (is_read_fault end e);
     write_fault = λ e. wf (is_write_fault end e);
     quiet_reads = λ no. qr (λ e. no (ap exit_of e));
     quiet_writes = λ no. qw (λ e. no (ap exit_of e));
   }
 
-nothing : (o : Option (List ℕ)) → Appends o o []
+pub nothing : (o : Option (List ℕ)) → Appends o o []
 nothing None = tt
 nothing (Some sent) = sym (append-nil sent)
 
@@ -56,13 +55,21 @@ always : {P : List ℕ → Type 0} (o : Option (List ℕ)) → ((input : List �
 always None h = tt
 always (Some input) h = h input
 
+nothing_within : (o : Option ℕ) → IsWithin o 0
+nothing_within None = tt
+nothing_within (Some most) = omega arith
+
+few_within : (o : Option ℕ) → IfSome o (λ limit. 0 ≤ limit + 2)
+few_within None = tt
+few_within (Some limit) = omega arith
+
 -- no engine was made, and the port wasn't asked
-module _ {S : Type 0} {reads writes : S → Bool → Result ℕ Failed → List ℕ → S → Type 0} {left sent : S → Option (List ℕ)} {read_faults write_faults : S → ℕ} {s : S} where
-  pub not_made : CanonExitFacts reads writes left sent read_faults write_faults s NoMemory s
+module _ {L : Bounds} {S : Type 0} {step : S → Step → S → Type 0} {port : Meanings S} {s : S} where
+  pub not_made : CanonExitFacts L step port s NoMemory s
   not_made = record {
-    chain = record { taken = []; sent = []; met = false; chain = none; few = inl (omega arith); outcome = refl };
-    told = always (left s) (λ input. nothing (sent s));
-    complete = always (left s) (λ input answer is nr nw. inr refl);
+    chain = record { steps = []; chain = none; few = inl (nothing_within L.input); asks = tt; turns = omega arith; bound = few_within L.input; none_behind = tt; order = tt; stops = refl; outcome = refl };
+    told = always (port.left s) (λ input. nothing (port.sent s));
+    complete = always (port.left s) (λ input answer is nr nw. inr refl);
     read_fault = λ e. absurd cc;
     write_fault = λ e. absurd cc;
     quiet_reads = λ no. refl;

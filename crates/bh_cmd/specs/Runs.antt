@@ -1,25 +1,123 @@
--- The words of a command, and what a run of it did.
-use Rattle.std.specs.Prelude.{◌≡◌, ℕ, Bool, List, [], ◌∷◌, map, codes, Option, Result, String, string_bytes}
+-- What a run of a command did.
+use Rattle.std.specs.Prelude.{◌≡◌, ◌≤◌, ◌⊎◌, ℕ, List, [], ◌++◌, length, map, Option, Some, None, String, string_bytes}
+use Rattle.std.specs.List.{sum}
+use Rattle.std.specs.Io.KnownBytes.{Appends}
 use Rattle.std.specs.declared.alloc.Global.{Global}
-use Rattle.bh_base.specs.declared.failed.Failed.{Failed}
-use Rattle.bh_base.specs.Steps.{Rose}
-use Rattle.bh_model.specs.Ranges.{default_bounds}
-use Rattle.bh_canon.specs.Ends.{CanonRun, IsTold, IsComplete}
+use Rattle.bh_spec.specs.declared.Summary.{Summary}
+use Rattle.bh_spec.specs.Bounds.{Bounds, default_bounds}
+use Rattle.bh_spec.specs.Answers.{Answer, refused, IsAnswer}
+use Rattle.bh_model.specs.declared.causes.Cause.TheVariants.{Binary, Http1, Form}
+use Rattle.bh_base.specs.Steps.{Step, Chain, Either, Meanings, Rose, given, IsQuiet, StopsAt, is_bad_write}
+use Rattle.bh_text.specs.Reports.{trial_line}
+use Rattle.bh_canon.specs.Ends.{IsCanon, CanonRun, IsTold, IsComplete, end_of}
+use Rattle.bh_words.specs.declared.commands.Command.{Command}
+use Rattle.bh_words.specs.Words.{IsCommand}
 use Rattle.bh_cmd.specs.declared.exits.Exit.{Exit}
-use Rattle.bh_cmd.specs.declared.exits.Exit.TheVariants.{ReadFault, WriteFault}
-use Rattle.bh_cmd.specs.Exits.{EndsSo}
+use Rattle.bh_cmd.specs.declared.exits.Exit.TheVariants.{Done, Refused, Usage, ReadFault, WriteFault, NoMemory, DoorFault, ShelfFault}
+use Rattle.bh_words.specs.declared.commands.Command.TheVariants.{Canon, Trial}
+use Rattle.bh_cmd.specs.Exits.{EndsSo, exit_of}
+use Rattle.bh_cmd.specs.Trials.{trial}
 
--- the words of the command: `canon` alone
-abbrev pub IsCommand : List (String Global) → Type 0
-IsCommand words = map string_bytes words ≡ codes "canon" ∷ []
+-- the words mean the command, and they mean none
+abbrev pub Mean : List (String Global) → Command → Type 0
+Mean words command = IsCommand (map string_bytes words) command
 
--- What a run of `canon` under the default limits did: by the bytes of the port's calls, by what the port tells, and by its counts of faults.
-pub record CanonExitFacts {S : Type 0} (reads writes : S → Bool → Result ℕ Failed → List ℕ → S → Type 0) (left sent : S → Option (List ℕ)) (read_faults write_faults : S → ℕ)
-    (s : S) (exit : Exit) (t : S) : Type 0 where
-  pub chain : EndsSo exit (λ end. CanonRun default_bounds reads writes s end t)
-  pub told : EndsSo exit (λ end. IsTold default_bounds left sent s end t)
-  pub complete : EndsSo exit (λ end. IsComplete default_bounds left read_faults write_faults s end t)
-  pub read_fault : exit ≡ ReadFault → Rose (read_faults s) (read_faults t)
-  pub write_fault : exit ≡ WriteFault → Rose (write_faults s) (write_faults t)
-  pub quiet_reads : (exit ≡ ReadFault → ⊥) → read_faults t ≡ read_faults s
-  pub quiet_writes : (exit ≡ WriteFault → ⊥) → write_faults t ≡ write_faults s
+abbrev pub MeanNothing : List (String Global) → Type 0
+MeanNothing words = (command : Command) → Mean words command → ⊥
+
+-- the command is one that words can mean
+abbrev pub CanRun : Command → Type 0
+CanRun (Canon L) = Unit {0}
+CanRun (Trial n) = n ≤ 67108864
+
+-- The line went out whole, and no write failed; or a front of it, and the sink's count of faults rose.
+pub record IsPrinted {S : Type 0} (write : S → Step → S → Type 0) (sent : S → Option (List ℕ)) (faults : S → ℕ)
+    (line : List ℕ) (s t : S) : Type 0 where
+  pub steps : List Step
+  pub chain : Chain write s steps t
+  pub told : Appends (sent s) (sent t) (given steps)
+  pub all : ((given steps ≡ line) × (faults t ≡ faults s)) ⊎ ((rest : List ℕ) × (line ≡ given steps ++ rest) × Rose (faults s) (faults t))
+
+-- What a run of `canon` under these limits did: by the bytes of the port's calls, by what the port tells, and by its counts of faults.
+pub record CanonExitFacts (L : Bounds) {S : Type 0} (step : S → Step → S → Type 0) (port : Meanings S) (s : S) (exit : Exit) (t : S)
+    : Type 0 where
+  pub chain : EndsSo exit (λ end. CanonRun L step s end t)
+  pub told : EndsSo exit (λ end. IsTold L port s end t)
+  pub complete : EndsSo exit (λ end. IsComplete L port s end t)
+  pub read_fault : exit ≡ ReadFault → Rose (port.read_faults s) (port.read_faults t)
+  pub write_fault : exit ≡ WriteFault → Rose (port.write_faults s) (port.write_faults t)
+  pub quiet_reads : (exit ≡ ReadFault → ⊥) → port.read_faults t ≡ port.read_faults s
+  pub quiet_writes : (exit ≡ WriteFault → ⊥) → port.write_faults t ≡ port.write_faults s
+
+-- The line of a trial whose engine ended with this summary: its four numbers are those of its input and of the canonical text.
+pub record IsTrialLine (n : ℕ) (s : Summary) (line : List ℕ) : Type 0 where
+  pub text : List ℕ
+  pub canonical : IsCanon default_bounds (trial n) s text
+  pub is_line : line ≡ trial_line (record { content = n; bytes_in = length (trial n); bytes_out = length text; sum = sum text })
+
+-- What the writes of a trial say of how it ended. A refusal comes only where it is the answer for the input under the default limits.
+abbrev pub TrialOutcome : ℕ → Exit → List Step → Type 0
+TrialOutcome n (Done (Some s)) steps = IsQuiet steps × IsTrialLine n s (given steps)
+TrialOutcome n (Done None) steps = ⊥
+TrialOutcome n (Refused (Binary refusal)) steps = (steps ≡ []) × IsAnswer default_bounds (trial n) (refused refusal)
+TrialOutcome n (Refused (Http1 why)) steps = ⊥
+TrialOutcome n (Refused (Form why)) steps = ⊥
+TrialOutcome n Usage steps = ⊥
+TrialOutcome n ReadFault steps = ⊥
+TrialOutcome n WriteFault steps = StopsAt is_bad_write steps × ((s : Summary) × (unsent : List ℕ) × IsTrialLine n s (given steps ++ unsent))
+TrialOutcome n NoMemory steps = steps ≡ []
+TrialOutcome n DoorFault steps = ⊥
+TrialOutcome n ShelfFault steps = ⊥
+
+-- Whatever the answer for the input is, the trial ended with it where no write was counted as failed, or for want of memory.
+abbrev pub TrialCompletes : ℕ → Exit → ℕ → ℕ → Type 0
+TrialCompletes n exit writes_before writes_now = (answer : Answer) → IsAnswer default_bounds (trial n) answer
+    → (Rose writes_before writes_now → ⊥) → (exit ≡ exit_of (end_of answer (length (trial n)))) ⊎ (exit ≡ NoMemory)
+
+-- What a run of `trial` did: the port went through these writes, and nothing was taken from it.
+pub record TrialRun (n : ℕ) {S : Type 0} (write : S → Step → S → Type 0) (port : Meanings S) (s : S) (exit : Exit) (t : S)
+    : Type 0 where
+  pub steps : List Step
+  pub chain : Chain write s steps t
+  pub same_left : port.left t ≡ port.left s
+  pub told : Appends (port.sent s) (port.sent t) (given steps)
+  pub outcome : TrialOutcome n exit steps
+
+pub record TrialExitFacts (n : ℕ) {S : Type 0} (write : S → Step → S → Type 0) (port : Meanings S) (s : S) (exit : Exit) (t : S)
+    : Type 0 where
+  pub run : TrialRun n write port s exit t
+  pub complete : TrialCompletes n exit (port.write_faults s) (port.write_faults t)
+  pub write_fault : exit ≡ WriteFault → Rose (port.write_faults s) (port.write_faults t)
+  pub quiet_reads : port.read_faults t ≡ port.read_faults s
+  pub quiet_writes : (exit ≡ WriteFault → ⊥) → port.write_faults t ≡ port.write_faults s
+
+-- A line was told to the port: whole where the exit is this, or a front of it, where it is the fault of a write.
+abbrev pub Tells : Exit → Summary → List ℕ → List Step → Type 0
+Tells (Done (Some s)) summary line steps = (s ≡ summary) × IsQuiet steps × (given steps ≡ line)
+Tells WriteFault summary line steps = StopsAt is_bad_write steps × ((unsent : List ℕ) × (line ≡ given steps ++ unsent))
+Tells other summary line steps = ⊥
+
+pub record IsToldLine {S : Type 0} (write : S → Step → S → Type 0) (summary : Summary) (line : List ℕ) (s : S) (exit : Exit)
+    (t : S) : Type 0 where
+  pub steps : List Step
+  pub chain : Chain write s steps t
+  pub tells : Tells exit summary line steps
+
+-- What a run of a command did.
+abbrev pub Performs : Command → {S : Type 0} → (S → Step → S → Type 0) → (S → Step → S → Type 0) → Meanings S → S → Exit → S → Type 0
+Performs (Canon L) read write port s exit t = CanonExitFacts L (Either read write) port s exit t
+Performs (Trial n) read write port s exit t = TrialExitFacts n write port s exit t
+
+-- What the words say of a run.
+pub record RunFacts (words : List (String Global)) {S : Type 0} (read write : S → Step → S → Type 0) (port : Meanings S) (s : S)
+    (exit : Exit) (t : S) : Type 0 where
+  pub usage : exit ≡ Usage → MeanNothing words
+  pub nothing : MeanNothing words → (exit ≡ Usage) ⊎ (exit ≡ NoMemory)
+  pub unused : MeanNothing words → t ≡ s
+  pub performs : (command : Command) → Mean words command → Performs command read write port s exit t
+  pub read_fault : exit ≡ ReadFault → Rose (port.read_faults s) (port.read_faults t)
+  pub write_fault : exit ≡ WriteFault → Rose (port.write_faults s) (port.write_faults t)
+  pub quiet_reads : (exit ≡ ReadFault → ⊥) → port.read_faults t ≡ port.read_faults s
+  pub quiet_writes : (exit ≡ WriteFault → ⊥) → port.write_faults t ≡ port.write_faults s
+  pub no_door : exit ≡ DoorFault → ⊥
+  pub no_shelf : exit ≡ ShelfFault → ⊥

@@ -1,0 +1,29 @@
+use Rattle.std.proofs.Common.{◌∙◌}
+use Rattle.bh_canon.specs.declared.engine.CanonEnd.TheVariants.{Done, Refused}
+use Rattle.bh_cmd.proofs.Trying.{engine_refused, engine_completes, engine_done, run_of, told_of, complete_of, not_tried, trial_refused, trial_told}
+use Rattle.bh_cmd.proofs.trial.trial.Goals as goal
+
+pub returns-in_default : goal.returns-in_default
+returns-in_default g c = not_tried c.args.content
+
+pub returns-in-Done : goal.returns-in-Done
+returns-in-Done g c =
+    let n = c.args.content in
+    let end = Done c.in-Done.summary in
+    let limits = c.in-Ok.ensures ∙ c.default.ensures in
+    let run = run_of n c.in-Ok.engine c.new-trial.result c.canon.new.port c.canon.result end limits c.new-trial.ensures c.in-Done.is c.canon.ensures.chain in
+    let complete = complete_of n c.in-Ok.engine c.new-trial.result c.canon.new.port c.canon.result end limits c.new-trial.ensures c.in-Done.is c.canon.ensures.complete in
+    trial_told g.met.P.Sink.write_law g.met.P.Port.write_leaves n c.in-Done.summary _ (engine_done n c.canon.new.port c.in-Done.summary run)
+    (engine_completes n c.canon.new.port end complete) c.tell.result c.tell.ensures
+
+pub returns-in-Refused : goal.returns-in-Refused
+returns-in-Refused g c =
+    let n = c.args.content in
+    let end = Refused c.in-Refused.refusal in
+    let limits = c.in-Ok.ensures ∙ c.default.ensures in
+    let told = told_of n c.in-Ok.engine c.new-trial.result c.canon.new.port c.canon.result end limits c.new-trial.ensures c.in-Refused.is c.canon.ensures.told in
+    let complete = complete_of n c.in-Ok.engine c.new-trial.result c.canon.new.port c.canon.result end limits c.new-trial.ensures c.in-Refused.is c.canon.ensures.complete in
+    trial_refused n c.in-Refused.refusal (engine_refused n c.canon.new.port c.in-Refused.refusal told) (engine_completes n c.canon.new.port end complete)
+
+pub returns : goal.returns
+returns g c = not_tried c.args.content

@@ -1,0 +1,131 @@
+-- From what words set to what they mean.
+use Rattle.std.proofs.Common.{◌≡◌, ◌∙◌, ℕ, refl, sym, ap, subst, List, ◌∷◌, Option, Some, None, codes, MatchOption, true, false}
+use Rattle.std.specs.Str.{bytes_eq}
+use Rattle.bh_spec.specs.Bounds.{Bounds, default_bounds}
+use Rattle.bh_words.specs.Numbers.{IsGiven}
+use Rattle.bh_words.specs.Settings.{Text, Form, Setting, Set, value_of}
+use Rattle.bh_words.specs.Arguments.{is_form}
+use Rattle.bh_words.specs.Words.{AreGiven, IsTrial, MeanLimits, MeanTrial, limited, counted, name_of, IsCommand}
+use Rattle.bh_words.specs.declared.commands.Command.{Command}
+use Rattle.bh_words.specs.declared.commands.Command.TheVariants.{Canon, Trial}
+use Rattle.clap.specs.Matches.{first_value, found_of}
+use Rattle.clap.specs.declared.parser.matches.ArgMatches.{ArgMatches}
+use Rattle.bh_words.specs.Reader.{SetsNothing, Sets}
+use Rattle.std.specs.Str.Parse.{digits_value}
+use Rattle.bh_words.proofs.Limiting.{one_given}
+use Rattle.bh_words.proofs.Exact.{one_set}
+
+-- the same values give the same
+given_same : (v w : Text → Option Text) → ((name : Text) → v name ≡ w name) → (limits : Bounds) → AreGiven v limits → AreGiven w limits
+given_same v w same limits h = record {
+  part = subst (λ o. IsGiven o default_bounds.part limits.part) (same (codes "part")) h.part;
+  section = subst (λ o. IsGiven o default_bounds.section limits.section) (same (codes "section")) h.section;
+  interims = subst (λ o. IsGiven o default_bounds.interims limits.interims) (same (codes "interims")) h.interims;
+  input = subst (λ o. IsGiven o default_bounds.input limits.input) (same (codes "input")) h.input;
+  valid = h.valid;
+}
+
+trial_same : (v w : Text → Option Text) → ((name : Text) → v name ≡ w name) → (n : ℕ) → IsTrial v n → IsTrial w n
+trial_same v w same n h = record { text = h.text; there = sym (same (codes "N")) ∙ h.there; number = h.number; most = h.most }
+
+-- What the values mean, the words mean, and nothing else.
+module _ {X : Type 0} (f : Form) (form : is_form f ≡ true) (P : (Text → Option Text) → X → Type 0)
+    (same : (v w : Text → Option Text) → ((name : Text) → v name ≡ w name) → (x : X) → P v x → P w x)
+    (words : List Text) (value : Text → Option Text) (settings : List Setting) (set : Set f settings words) (gives : (name : Text) → value name ≡ value_of name settings) where
+  pub meant : (r : Option X) → MatchOption r ((x : X) → P value x → ⊥) (P value)
+      → MatchOption r ((x : X) → ((all : List Setting) × Set f all words × P (λ name. value_of name all) x) → ⊥) (λ x. (all : List Setting) × Set f all words × P (λ name. value_of name all) x)
+  meant None none = λ x h. none x (same (λ name. value_of name settings) value (λ name. sym (gives name)) x
+      (subst (λ (all : List Setting). P (λ name. value_of name all) x) (one_set f form words h.0 settings h.1 set) h.2))
+  meant (Some x) is = (settings, set, same value (λ name. value_of name settings) gives x is)
+
+pub limits_meant : (words : List Text) (value : Text → Option Text) (settings : List Setting) → Set limited settings words → ((name : Text) → value name ≡ value_of name settings)
+    → (r : Option Bounds) → MatchOption r ((limits : Bounds) → AreGiven value limits → ⊥) (AreGiven value) → MatchOption r ((limits : Bounds) → MeanLimits words limits → ⊥) (MeanLimits words)
+limits_meant words value settings set gives = meant limited refl AreGiven given_same words value settings set gives
+
+pub trial_meant : (words : List Text) (value : Text → Option Text) (settings : List Setting) → Set counted settings words → ((name : Text) → value name ≡ value_of name settings)
+    → (r : Option ℕ) → MatchOption r ((n : ℕ) → IsTrial value n → ⊥) (IsTrial value) → MatchOption r ((n : ℕ) → MeanTrial words n → ⊥) (MeanTrial words)
+trial_meant words value settings set gives = meant counted refl IsTrial trial_same words value settings set gives
+
+pub limits_read : (words : List Text) (o : Option ArgMatches) (m : ArgMatches) → MatchOption o (SetsNothing limited words) (Sets limited words) → o ≡ Some m
+    → (r : Option Bounds) → MatchOption r ((limits : Bounds) → AreGiven (first_value (found_of m)) limits → ⊥) (AreGiven (first_value (found_of m)))
+    → MatchOption r ((limits : Bounds) → MeanLimits words limits → ⊥) (MeanLimits words)
+limits_read words o m told is =
+    let sets : Sets limited words m = subst (λ x. MatchOption x (SetsNothing limited words) (Sets limited words)) is told in
+    limits_meant words (first_value (found_of m)) sets.0 sets.1 (λ name. sets.2.values name refl)
+
+pub trial_read : (words : List Text) (o : Option ArgMatches) (m : ArgMatches) → MatchOption o (SetsNothing counted words) (Sets counted words) → o ≡ Some m
+    → (r : Option ℕ) → MatchOption r ((n : ℕ) → IsTrial (first_value (found_of m)) n → ⊥) (IsTrial (first_value (found_of m)))
+    → MatchOption r ((n : ℕ) → MeanTrial words n → ⊥) (MeanTrial words)
+trial_read words o m told is =
+    let sets : Sets counted words m = subst (λ x. MatchOption x (SetsNothing counted words) (Sets counted words)) is told in
+    trial_meant words (first_value (found_of m)) sets.0 sets.1 (λ name. sets.2.values name refl)
+
+-- ---- commands by their names
+behind : (a b : Text) (ws vs : List Text) → a ∷ ws ≡ b ∷ vs → ws ≡ vs
+behind a b ws vs e = cc
+
+front : (a b : Text) (ws vs : List Text) → a ∷ ws ≡ b ∷ vs → a ≡ b
+front a b ws vs e = cc
+
+-- words with the name of one command are those of no other
+no_limits : (words : List Text) (o : Option Bounds) → MatchOption o ((limits : Bounds) → MeanLimits words limits → ⊥) (MeanLimits words) → o ≡ None → (limits : Bounds) → MeanLimits words limits → ⊥
+no_limits words None h e = h
+no_limits words (Some limits) h e = absurd cc
+
+no_number : (words : List Text) (o : Option ℕ) → MatchOption o ((n : ℕ) → MeanTrial words n → ⊥) (MeanTrial words) → o ≡ None → (n : ℕ) → MeanTrial words n → ⊥
+no_number words None h e = h
+no_number words (Some n) h e = absurd cc
+
+pub no_canon : (words : List Text) (o : Option Bounds) → MatchOption o ((limits : Bounds) → MeanLimits words limits → ⊥) (MeanLimits words) → o ≡ None → (command : Command) → IsCommand (codes "canon" ∷ words) command → ⊥
+no_canon words o answer none (Canon limits) is = no_limits words o answer none limits (is.settings, subst (λ ws. Set limited is.settings ws) (sym (behind (codes "canon") (codes "canon") words is.rest is.named)) is.set, is.meant)
+no_canon words o answer none other is = let e : true ≡ false = ap (bytes_eq (codes "canon")) (front (codes "canon") (name_of other) words is.rest is.named) in absurd cc
+
+pub no_trial : (words : List Text) (o : Option ℕ) → MatchOption o ((n : ℕ) → MeanTrial words n → ⊥) (MeanTrial words) → o ≡ None → (command : Command) → IsCommand (codes "trial" ∷ words) command → ⊥
+no_trial words o answer none (Trial n) is = no_number words o answer none n (is.settings, subst (λ ws. Set counted is.settings ws) (sym (behind (codes "trial") (codes "trial") words is.rest is.named)) is.set, is.meant)
+no_trial words o answer none other is = let e : true ≡ false = ap (bytes_eq (codes "trial")) (front (codes "trial") (name_of other) words is.rest is.named) in absurd cc
+
+pub unnamed : (name : Text) (words : List Text) → (name ≡ codes "canon" → ⊥) → (name ≡ codes "trial" → ⊥)
+    → (command : Command) → IsCommand (name ∷ words) command → ⊥
+unnamed name words canon trial (Canon limits) is = canon (front name (codes "canon") words is.rest is.named)
+unnamed name words canon trial (Trial n) is = trial (front name (codes "trial") words is.rest is.named)
+
+-- ---- words mean one command
+same_bounds : (a b : Bounds) → a.part ≡ b.part → a.section ≡ b.section → a.interims ≡ b.interims → a.input ≡ b.input → a ≡ b
+same_bounds a b p s i n =
+    ap (λ x. record a { part = x }) p ∙ (ap (λ x. record a { part = b.part; section = x }) s
+    ∙ (ap (λ x. record a { part = b.part; section = b.section; interims = x }) i ∙ ap (λ x. record a { part = b.part; section = b.section; interims = b.interims; input = x }) n))
+
+one_limits : (value : Text → Option Text) (a b : Bounds) → AreGiven value a → AreGiven value b → a ≡ b
+one_limits value a b h k = same_bounds a b
+    (one_given (value (codes "part")) default_bounds.part a.part b.part h.part k.part)
+    (one_given (value (codes "section")) default_bounds.section a.section b.section h.section k.section)
+    (one_given (value (codes "interims")) default_bounds.interims a.interims b.interims h.interims k.interims)
+    (one_given (value (codes "input")) default_bounds.input a.input b.input h.input k.input)
+
+limits_once : (words : List Text) (a b : Bounds) → MeanLimits words a → MeanLimits words b → a ≡ b
+limits_once words a b h k =
+    one_limits (λ name. value_of name k.0) a b (subst (λ (all : List Setting). AreGiven (λ name. value_of name all) a) (one_set limited refl words h.0 k.0 h.1 k.1) h.2) k.2
+
+some_text : (a b : Text) → Some a ≡ Some b → a ≡ b
+some_text a b e = cc
+
+one_trial : (value : Text → Option Text) (a b : ℕ) → IsTrial value a → IsTrial value b → a ≡ b
+one_trial value a b h k =
+    h.number.value ∙ (ap (digits_value 10) (some_text h.text k.text (sym h.there ∙ k.there)) ∙ sym k.number.value)
+
+trial_once : (words : List Text) (a b : ℕ) → MeanTrial words a → MeanTrial words b → a ≡ b
+trial_once words a b h k =
+    one_trial (λ name. value_of name k.0) a b (subst (λ (all : List Setting). IsTrial (λ name. value_of name all) a) (one_set counted refl words h.0 k.0 h.1 k.1) h.2) k.2
+
+-- two commands of the same words
+rests : (words : List Text) (a b : Command) (p : IsCommand words a) (q : IsCommand words b) → q.rest ≡ p.rest
+rests words a b p q = behind (name_of b) (name_of a) q.rest p.rest (sym q.named ∙ p.named)
+
+names : (words : List Text) (a b : Command) → IsCommand words a → IsCommand words b → name_of a ≡ name_of b
+names words a b p q = front (name_of a) (name_of b) p.rest q.rest (sym p.named ∙ q.named)
+
+pub one_command : (words : List Text) (a b : Command) → IsCommand words a → IsCommand words b → a ≡ b
+one_command words (Canon x) (Canon y) p q = ap Canon (limits_once p.rest x y (p.settings, p.set, p.meant) (q.settings, subst (Set limited q.settings) (rests words (Canon x) (Canon y) p q) q.set, q.meant))
+one_command words (Canon x) other p q = let e : true ≡ false = ap (bytes_eq (codes "canon")) (names words (Canon x) other p q) in absurd cc
+one_command words (Trial x) (Trial y) p q = ap Trial (trial_once p.rest x y (p.settings, p.set, p.meant) (q.settings, subst (Set counted q.settings) (rests words (Trial x) (Trial y) p q) q.set, q.meant))
+one_command words (Trial x) other p q = let e : true ≡ false = ap (bytes_eq (codes "trial")) (names words (Trial x) other p q) in absurd cc

@@ -1,0 +1,58 @@
+-- Which words mean which command.
+use Rattle.std.specs.Prelude.{ℕ, ◌≡◌, ◌≤◌, List, [], ◌∷◌, Option, Some, None, codes}
+use Rattle.bh_spec.specs.Bounds.{Bounds, default_bounds}
+use Rattle.bh_model.specs.Ranges.{AreLimits}
+use Rattle.bh_words.specs.declared.commands.Command.{Command}
+use Rattle.bh_words.specs.declared.commands.Command.TheVariants.{Canon, Trial}
+use Rattle.bh_words.specs.Numbers.{IsNumber, IsGiven}
+use Rattle.bh_words.specs.Settings.{Text, Form, Setting, Set, value_of}
+
+-- the forms of the commands
+abbrev pub limited : Form
+limited = record { options = codes "part" ∷ codes "section" ∷ codes "interims" ∷ codes "input" ∷ []; switches = []; own = None }
+
+abbrev pub counted : Form
+counted = record { options = []; switches = []; own = Some (codes "N") }
+
+-- The limits are those that the values give, and the default one for each that they don't.
+pub record AreGiven (value : Text → Option Text) (limits : Bounds) : Type 0 where
+  pub part : IsGiven (value (codes "part")) default_bounds.part limits.part
+  pub section : IsGiven (value (codes "section")) default_bounds.section limits.section
+  pub interims : IsGiven (value (codes "interims")) default_bounds.interims limits.interims
+  pub input : IsGiven (value (codes "input")) default_bounds.input limits.input
+  pub valid : AreLimits limits
+
+-- the number is the one that the values give, and not too great
+pub record IsTrial (value : Text → Option Text) (n : ℕ) : Type 0 where
+  pub text : Text
+  pub there : value (codes "N") ≡ Some text
+  pub number : IsNumber text n
+  pub most : n ≤ 67108864
+
+-- Of each command its name, what it takes behind it, and which values mean it.
+abbrev pub name_of : Command → Text
+name_of (Canon limits) = codes "canon"
+name_of (Trial n) = codes "trial"
+
+abbrev pub form_of_command : Command → Form
+form_of_command (Canon limits) = limited
+form_of_command (Trial n) = counted
+
+abbrev pub IsMeant : Command → (Text → Option Text) → Type 0
+IsMeant (Canon limits) value = AreGiven value limits
+IsMeant (Trial n) value = IsTrial value n
+
+-- The words mean the command.
+pub record IsCommand (words : List Text) (command : Command) : Type 0 where
+  pub rest : List Text
+  pub named : words ≡ name_of command ∷ rest
+  pub settings : List Setting
+  pub set : Set (form_of_command command) settings rest
+  pub meant : IsMeant command (λ name. value_of name settings)
+
+-- the words behind a name mean the limits, and the number of `trial`
+abbrev pub MeanLimits : List Text → Bounds → Type 0
+MeanLimits words limits = (settings : List Setting) × Set limited settings words × AreGiven (λ name. value_of name settings) limits
+
+abbrev pub MeanTrial : List Text → ℕ → Type 0
+MeanTrial words n = (settings : List Setting) × Set counted settings words × IsTrial (λ name. value_of name settings) n

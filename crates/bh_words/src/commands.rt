@@ -1,0 +1,111 @@
+//! The command that the words mean.
+ghost use Rattle.std.specs.Prelude.{◌≡◌, ◌∷◌, ℕ, IfOk, MatchOption, map, string_bytes, codes};
+ghost use Rattle.clap.specs.Words.{first_value, found_of};
+ghost use Rattle.bh_spec.specs.Bounds.{Bounds};
+ghost use Rattle.bh_words.specs.Settings.{Finds};
+ghost use Rattle.bh_words.specs.Words.{IsCommand, AreGiven, IsTrial, MeanLimits, MeanTrial};
+
+use crate::forms::{LIMITED, TRIAL};
+use crate::numbers::{given, number};
+use crate::reader::read;
+use bh_base::NoMemory;
+use bh_model::Limits;
+use clap::ArgMatches;
+use std::alloc::{AllocError, Global};
+
+/// A command, with what its words say.
+#[derive(Clone, Copy, Debug, PartialEq, Eq)]
+pub enum Command {
+    /// Make a message canonical.
+    Canon(Limits),
+    /// Make a message with so many bytes of content, and make it canonical.
+    Trial(u64),
+}
+
+/// The most bytes of content that `trial` makes.
+const MOST_CONTENT: u64 = 67_108_864;
+
+/// The limits that are given.
+fn limits_of(matches: &ArgMatches<'_>) -> Option<Limits>
+    ensures { Finds (AreGiven (first_value (found_of matches.now))) result }
+{
+    let default = Limits::default();
+    let part = given(matches.get_str("part"), default.part())?;
+    let section = given(matches.get_str("section"), default.section())?;
+    let interims = given(matches.get_str("interims"), default.interims())?;
+    let input = given(matches.get_str("input"), default.input())?;
+    Limits::new(part, section, interims, input)
+}
+
+/// The number of `trial`.
+fn trial_of(matches: &ArgMatches<'_>) -> Option<u64>
+    ensures { Finds (IsTrial (first_value (found_of matches.now))) result }
+{
+    match number(matches.get_str("N")?) {
+        Some(n) => if n <= MOST_CONTENT { Some(n) } else { None },
+        None => None,
+    }
+}
+
+/// The limits that the words behind a command's name mean.
+fn limited(alloc: Global, words: &[String]) -> Result<Option<Limits>, NoMemory>
+    ensures { IfOk result (Finds (MeanLimits (map string_bytes words.now))) }
+{
+    match read(alloc, words, LIMITED)? {
+        Some(matches) => Ok(limits_of(&matches)),
+        None => Ok(None),
+    }
+}
+
+/// The number that the words behind `trial` mean.
+fn trial(alloc: Global, words: &[String]) -> Result<Option<u64>, NoMemory>
+    ensures { IfOk result (Finds (MeanTrial (map string_bytes words.now))) }
+{
+    match read(alloc, words, TRIAL)? {
+        Some(matches) => Ok(trial_of(&matches)),
+        None => Ok(None),
+    }
+}
+
+/// `canon`, where the words behind its name mean it.
+fn canon(alloc: Global, words: &[String]) -> Result<Option<Command>, NoMemory>
+    ensures { IfOk result (Finds (IsCommand (codes "canon" ∷ map string_bytes words.now))) }
+{
+    match limited(alloc, words)? {
+        Some(limits) => Ok(Some(Command::Canon(limits))),
+        None => Ok(None),
+    }
+}
+
+/// `trial`, where the words behind its name mean it.
+fn trial_command(alloc: Global, words: &[String]) -> Result<Option<Command>, NoMemory>
+    ensures { IfOk result (Finds (IsCommand (codes "trial" ∷ map string_bytes words.now))) }
+{
+    match trial(alloc, words)? {
+        Some(n) => Ok(Some(Command::Trial(n))),
+        None => Ok(None),
+    }
+}
+
+/// The command that the words behind a name mean, or none where they mean no command.
+fn named(alloc: Global, name: &str, words: &[String]) -> Result<Option<Command>, NoMemory>
+    ensures { IfOk result (Finds (IsCommand (name.now ∷ map string_bytes words.now))) }
+{
+    if name == "canon" {
+        return canon(alloc, words);
+    }
+    if name == "trial" {
+        return trial_command(alloc, words);
+    }
+    Ok(None)
+}
+
+/// The command that the words mean, which are the words behind the program's name, or none where they mean no command.
+pub fn parse(alloc: Global, words: &[String]) -> Result<Option<Command>, NoMemory>
+    ensures { IfOk result (Finds (IsCommand (map string_bytes words.now))) }
+{
+    match words.split_first() {
+        Some((name, rest)) => named(alloc, name.as_str(), rest),
+        None => Ok(None),
+    }
+}

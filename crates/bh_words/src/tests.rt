@@ -1,0 +1,239 @@
+//! Words and what they mean.
+use super::{Command, parse};
+use crate::forms::Form;
+use crate::reader::read;
+use std::alloc::Global;
+use std::test::Fail;
+
+/// The words of a text, which `|` keeps apart.
+fn list_of(alloc: Global, text: &str) -> Result<Vec<String>, Fail> {
+    let mut words = Vec::new(alloc);
+    for word in text.split('|') {
+        words.push(String::from_str(alloc, word)?)?;
+    }
+    Ok(words)
+}
+
+/// What words mean: `canon` with its limits, `trial` with its number, or no command.
+#[derive(Clone, Copy, Debug, PartialEq, Eq)]
+enum Meant {
+    Canon(u64, u64, u64, u64),
+    Trial(u64),
+    Nothing,
+}
+
+/// What a command is.
+fn value_of(command: &Command) -> Meant {
+    match command {
+        Command::Canon(l) => Meant::Canon(l.part(), l.section(), l.interims(), l.input()),
+        Command::Trial(n) => Meant::Trial(*n),
+    }
+}
+
+/// What the words of a text mean.
+fn meaning(alloc: Global, text: &str) -> Result<Meant, Fail> {
+    match parse(alloc, &list_of(alloc, text)?)? {
+        Some(command) => Ok(value_of(&command)),
+        None => Ok(Meant::Nothing),
+    }
+}
+
+/// Words, and what they mean.
+const ROWS: [(&str, Meant); 106] = [
+    ("canon", Meant::Canon(8192, 65_536, 16, 16_777_216)),
+    ("canon|--part|16", Meant::Canon(16, 65_536, 16, 16_777_216)),
+    ("canon|--part=16", Meant::Canon(16, 65_536, 16, 16_777_216)),
+    (
+        "canon|--part|65535",
+        Meant::Canon(65_535, 65_536, 16, 16_777_216),
+    ),
+    (
+        "canon|--part=65535",
+        Meant::Canon(65_535, 65_536, 16, 16_777_216),
+    ),
+    ("canon|--section|16", Meant::Canon(8192, 16, 16, 16_777_216)),
+    (
+        "canon|--section=1048576",
+        Meant::Canon(8192, 1_048_576, 16, 16_777_216),
+    ),
+    (
+        "canon|--interims|0",
+        Meant::Canon(8192, 65_536, 0, 16_777_216),
+    ),
+    (
+        "canon|--interims=255",
+        Meant::Canon(8192, 65_536, 255, 16_777_216),
+    ),
+    ("canon|--input|1", Meant::Canon(8192, 65_536, 16, 1)),
+    (
+        "canon|--input=1099511627776",
+        Meant::Canon(8192, 65_536, 16, 1_099_511_627_776),
+    ),
+    (
+        "canon|--part=0000000000016",
+        Meant::Canon(16, 65_536, 16, 16_777_216),
+    ),
+    (
+        "canon|--input|0000000000001",
+        Meant::Canon(8192, 65_536, 16, 1),
+    ),
+    (
+        "canon|--part=16|--interims|0",
+        Meant::Canon(16, 65_536, 0, 16_777_216),
+    ),
+    (
+        "canon|--interims|0|--part=16",
+        Meant::Canon(16, 65_536, 0, 16_777_216),
+    ),
+    (
+        "canon|--input|4|--interims=3|--section|17|--part=16",
+        Meant::Canon(16, 17, 3, 4),
+    ),
+    ("trial|0", Meant::Trial(0)),
+    ("trial|5", Meant::Trial(5)),
+    ("trial|0000067108864", Meant::Trial(67_108_864)),
+    ("", Meant::Nothing),
+    ("|", Meant::Nothing),
+    ("Canon", Meant::Nothing),
+    ("canon ", Meant::Nothing),
+    ("--canon", Meant::Nothing),
+    ("-", Meant::Nothing),
+    ("--", Meant::Nothing),
+    ("-h", Meant::Nothing),
+    ("--help", Meant::Nothing),
+    ("help", Meant::Nothing),
+    ("check", Meant::Nothing),
+    ("show", Meant::Nothing),
+    ("from-http1", Meant::Nothing),
+    ("serve|8080", Meant::Nothing),
+    ("canon|", Meant::Nothing),
+    ("canon|16", Meant::Nothing),
+    ("canon|canon", Meant::Nothing),
+    ("canon|-", Meant::Nothing),
+    ("canon|--", Meant::Nothing),
+    ("canon|-h", Meant::Nothing),
+    ("canon|--help", Meant::Nothing),
+    ("canon|--version", Meant::Nothing),
+    ("canon|--par|16", Meant::Nothing),
+    ("canon|--Part|16", Meant::Nothing),
+    ("canon|-part|16", Meant::Nothing),
+    ("canon|--parts|16", Meant::Nothing),
+    ("canon|--=16", Meant::Nothing),
+    ("canon|--part16", Meant::Nothing),
+    ("canon|--scheme=http", Meant::Nothing),
+    ("canon|--part", Meant::Nothing),
+    ("canon|--part=", Meant::Nothing),
+    ("canon|--part|", Meant::Nothing),
+    ("canon|--part=16=", Meant::Nothing),
+    ("canon|--part=16=16", Meant::Nothing),
+    ("canon|--part==16", Meant::Nothing),
+    ("canon|--part|-", Meant::Nothing),
+    ("canon|--part|--", Meant::Nothing),
+    ("canon|--part|-16", Meant::Nothing),
+    ("canon|--part|--section|16", Meant::Nothing),
+    ("canon|--part|--section=16", Meant::Nothing),
+    ("canon|--part=-16", Meant::Nothing),
+    ("canon|--part=+16", Meant::Nothing),
+    ("canon|--part|+16", Meant::Nothing),
+    ("canon|--part|16 ", Meant::Nothing),
+    ("canon|--part| 16", Meant::Nothing),
+    ("canon|--part|0x10", Meant::Nothing),
+    ("canon|--part|1_6", Meant::Nothing),
+    ("canon|--part=16.0", Meant::Nothing),
+    ("canon|--part=00000000000016", Meant::Nothing),
+    ("canon|--input=00000000000001", Meant::Nothing),
+    ("canon|--input|10000000000000", Meant::Nothing),
+    ("canon|--input|9999999999999", Meant::Nothing),
+    ("canon|--part=15", Meant::Nothing),
+    ("canon|--part|65536", Meant::Nothing),
+    ("canon|--section|15", Meant::Nothing),
+    ("canon|--section=1048577", Meant::Nothing),
+    ("canon|--interims|256", Meant::Nothing),
+    ("canon|--input|0", Meant::Nothing),
+    ("canon|--input=1099511627777", Meant::Nothing),
+    ("canon|--part|16|--part|16", Meant::Nothing),
+    ("canon|--part|16|--part=16", Meant::Nothing),
+    ("canon|--part=16|--part|16", Meant::Nothing),
+    ("canon|--part=16|--part=16", Meant::Nothing),
+    ("canon|--section|16|--section|16", Meant::Nothing),
+    ("canon|--section|16|--section=16", Meant::Nothing),
+    ("canon|--section=16|--section|16", Meant::Nothing),
+    ("canon|--section=16|--section=16", Meant::Nothing),
+    ("canon|--interims|16|--interims|16", Meant::Nothing),
+    ("canon|--interims|16|--interims=16", Meant::Nothing),
+    ("canon|--interims=16|--interims|16", Meant::Nothing),
+    ("canon|--interims=16|--interims=16", Meant::Nothing),
+    ("canon|--input|16|--input|16", Meant::Nothing),
+    ("canon|--input|16|--input=16", Meant::Nothing),
+    ("canon|--input=16|--input|16", Meant::Nothing),
+    ("canon|--input=16|--input=16", Meant::Nothing),
+    ("canon|--part=16|--section|16|--part|17", Meant::Nothing),
+    ("trial", Meant::Nothing),
+    ("trial|", Meant::Nothing),
+    ("trial|5|5", Meant::Nothing),
+    ("trial|-5", Meant::Nothing),
+    ("trial|+5", Meant::Nothing),
+    ("trial|--part|16|5", Meant::Nothing),
+    ("trial|5|--input=16", Meant::Nothing),
+    ("trial|67108865", Meant::Nothing),
+    ("trial|00000000000005", Meant::Nothing),
+    ("trial|0x5", Meant::Nothing),
+    ("trial|five", Meant::Nothing),
+];
+
+#[test]
+fn words_mean_their_command(rt: HostRuntime) -> Result<(), Fail> {
+    for (words, want) in ROWS {
+        assert_eq!(rt; meaning(rt.alloc(), words)?, want, "{words}");
+    }
+    Ok(())
+}
+
+#[test]
+fn no_words_mean_nothing(rt: HostRuntime) -> Result<(), Fail> {
+    assert!(rt; parse(rt.alloc(), &Vec::new(rt.alloc()))?.is_none());
+    Ok(())
+}
+
+/// A form with options, a switch and a word of its own, as later commands have it.
+const HEADED: Form = Form {
+    options: &["part", "scheme"],
+    switches: &["to-head"],
+    own: Some("PORT"),
+};
+
+/// What words of that form set: the scheme, the word, and whether the switch is on.
+fn headed(alloc: Global, words: &str) -> Result<Option<(bool, bool, bool)>, Fail> {
+    match read(alloc, &list_of(alloc, words)?, HEADED)? {
+        Some(matches) => {
+            let http = matches.get_str("scheme") == Some("http");
+            let port = matches.get_str("PORT") == Some("80");
+            Ok(Some((http, port, matches.get_flag("to-head"))))
+        }
+        None => Ok(None),
+    }
+}
+
+/// Words of that form, with what they set.
+const HEADED_ROWS: [(&str, Option<(bool, bool, bool)>); 12] = [
+    ("80", Some((false, true, false))),
+    ("81", Some((false, false, false))),
+    ("--to-head|80", Some((false, true, true))),
+    ("80|--to-head|--scheme=http", Some((true, true, true))),
+    ("--scheme|http|80", Some((true, true, false))),
+    ("80|--scheme=http|--to-head", Some((true, true, true))),
+    ("--scheme|http|80|--scheme=http", None),
+    ("80|--to-head|--to-head", None),
+    ("--to-head|80|--to-head", None),
+    ("80|--to-head=true", None),
+    ("--scheme|--to-head|80", None),
+    ("--to-head", None),
+];
+
+#[test]
+fn switches_and_words_stand_anywhere(rt: HostRuntime) -> Result<(), Fail> {
+    for (words, want) in HEADED_ROWS {
+        assert_eq!(rt; headed(rt.alloc(), words)?, want, "{words}");
+    }
+    Ok(())
+}
