@@ -1,0 +1,4 @@
+pub mod Readings
+pub mod ContentLaws
+pub mod ReadingLaws
+pub mod Checks

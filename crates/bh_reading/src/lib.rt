@@ -1,0 +1,10 @@
+//! The push decoder as the loop over a port sees it, with what is counted for the summary; and the check of a message.
+#![tactic(auto)]
+
+mod checking;
+mod reading;
+#[cfg(test)]
+mod tests;
+
+pub use checking::check;
+pub use reading::Reading;

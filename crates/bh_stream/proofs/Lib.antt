@@ -1,0 +1,14 @@
+pub mod Outputs
+pub mod Fronts
+pub mod Logging
+pub mod ReadLaws
+pub mod Moving
+pub mod Parts
+pub mod Turns
+pub mod Closing
+pub mod LogLaws
+pub mod SameMarks
+pub mod Messages
+pub mod Formats
+pub mod Calls
+pub mod Silent

@@ -1,0 +1,56 @@
+-- Outputs, their bytes and their content.
+use Rattle.std.proofs.Common.{◌≡◌, ◌+◌, ℕ, if◌then◌else◌, nat_eq, List, [], ◌∷◌, ◌++◌, refl, ◌∙◌, ap, arith, append_assoc}
+use Rattle.std.proofs.lemmas.List.{map-append}
+use Rattle.bh_spec.specs.declared.Part.{Part}
+use Rattle.bh_spec.specs.Parts.{number_of}
+use Rattle.bh_spec.specs.Texts.{Text, bytes_of, content_in}
+use Rattle.bh_stream.specs.Outputs.{Output, written, shown_in, weighed}
+use Rattle.bh_stream.specs.Logs.{Begins}
+
+pub written-append : (x y : Output) → written (x ++ y) ≡ written x ++ written y
+written-append x y = map-append (λ (b : ℕ × ℕ). b.1) x y
+
+pub shown-append : (x y : Output) → shown_in (x ++ y) ≡ shown_in x + shown_in y
+shown-append [] y = omega arith
+shown-append (b ∷ x) y = omega (arith, shown-append x y)
+
+-- the front of an output whose bytes are these
+pub front_of : (t : Output) (b after : List ℕ) → written t ≡ b ++ after → (x r : Output) × (t ≡ x ++ r) × (written x ≡ b) × (written r ≡ after)
+front_of t [] after e = ([], t, refl, refl, e)
+front_of [] (x ∷ b) after e = absurd (cc)
+front_of (c ∷ t) (x ∷ b) after e =
+    let head : c.1 ≡ x = cc in
+    let tail : written t ≡ b ++ after = cc in
+    let f = front_of t b after tail in
+    (c ∷ f.0, f.1, ap (λ (l : Output). c ∷ l) f.2, (λ i. head i ∷ f.3 i), f.4)
+
+-- lists with one beginning
+pub begins_more : {A : Type 0} (a b c : List A) → Begins a b → Begins b c → Begins a c
+begins_more a b c h k = record { rest = h.rest ++ k.rest; split = k.split ∙ ap (λ (l : List _). l ++ k.rest) h.split ∙ append_assoc a h.rest k.rest }
+
+pub begins_written : (a b : Output) → Begins a b → Begins (written a) (written b)
+begins_written a b h = record { rest = written h.rest; split = ap written h.split ∙ written-append a h.rest }
+
+-- ---- texts
+
+pub weighed_bytes : (t : Text) → written (weighed t) ≡ bytes_of t
+weighed_bytes [] = refl
+weighed_bytes (x ∷ t) = ap (λ (l : List ℕ). x.1 ∷ l) (weighed_bytes t)
+
+pub weighed_content : (t : Text) → shown_in (weighed t) ≡ content_in t
+weighed_content [] = refl
+weighed_content (x ∷ t) = omega (arith, weighed_content t)
+
+-- a front of a weighed text is a weighed front
+pub weighed_front : (t : Text) (front more : Output) → weighed t ≡ front ++ more → (x y : Text) × (t ≡ x ++ y) × (weighed x ≡ front) × (weighed y ≡ more)
+weighed_front t [] more e = ([], t, refl, refl, e)
+weighed_front [] (b ∷ front) more e = absurd (cc)
+weighed_front (c ∷ t) (b ∷ front) more e =
+    let one : ℕ × ℕ = ((if nat_eq (number_of c.0) 18 then 1 else 0), c.1) in
+    let head : one ≡ b = cc in
+    let tail : weighed t ≡ front ++ more = cc in
+    let r = weighed_front t front more tail in
+    (c ∷ r.0, r.1, in_front c t (r.0 ++ r.1) r.2, (λ i. head i ∷ r.3 i), r.4)
+  where
+    in_front : (c : Part × ℕ) (t u : Text) → t ≡ u → c ∷ t ≡ c ∷ u
+    in_front c t u e = ap (λ (l : Text). c ∷ l) e

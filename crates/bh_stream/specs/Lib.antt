@@ -1,0 +1,9 @@
+pub mod Outputs
+pub mod Logs
+pub mod Entries
+pub mod Decoding
+pub mod Points
+pub mod Jobs
+pub mod Runs
+pub mod Formats
+pub mod Calls
