@@ -1,0 +1,9 @@
+mod LineBounds
+mod Phases
+mod Pushing
+mod TrailerSteps
+mod ReaderSteps
+mod WholeSteps
+mod Digits
+mod OneBody
+mod Sounds

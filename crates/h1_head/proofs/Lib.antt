@@ -1,0 +1,12 @@
+pub mod Classes
+pub mod Trimming
+pub mod Sections
+pub mod Counting
+pub mod Spans
+pub mod Reading
+pub mod Cuts
+pub mod HeadLemmas
+pub mod Ending
+pub mod Texts
+pub mod RoundTrip
+pub mod OneStep

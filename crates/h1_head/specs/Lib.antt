@@ -1,0 +1,5 @@
+pub mod Cuts
+pub mod Spanned
+pub mod Parsed
+pub mod Ends
+pub mod Laws

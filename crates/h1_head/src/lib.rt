@@ -1,0 +1,19 @@
+//! HTTP/1.1 heads: found in pieces, parsed, and written (RFC 9112, sections 2 to 5).
+#![tactic(auto)]
+
+mod field_lines;
+mod head;
+mod laws;
+mod reader;
+mod splitting;
+mod start_line;
+#[cfg(test)]
+mod tests;
+mod writing;
+
+pub use field_lines::{fill_fields, parse_fields};
+pub use h1_spec::Framing1;
+pub use head::{Head1, HeadWhy, Start, parse_head};
+pub use laws::{one_step, read_back, reads_alike, written_is_a_head};
+pub use reader::{HeadReader, HeadStep};
+pub use writing::{put_section, write_request_head, write_response_head};

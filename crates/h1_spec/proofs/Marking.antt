@@ -1,0 +1,51 @@
+-- The marked bytes of a text are the content of its message.
+use Rattle.std.proofs.Common.{◌≡◌, arith, ℕ, List, [], ◌∷◌, ◌++◌, length, refl, sym, ap, ◌∙◌, length-append}
+use Rattle.std.specs.List.{concat}
+use Rattle.bh_spec.specs.Bounds.{Bounds}
+use Rattle.bh_spec.specs.Messages.{Field}
+use Rattle.bh_spec.specs.Texts.{Text, content_in, AreEach}
+use Rattle.h1_spec.specs.declared.Framing1.{Framing1}
+use Rattle.h1_spec.specs.declared.Framing1.TheVariants.{Empty, Counted, Chunked, ToEnd}
+use Rattle.h1_spec.specs.Grammar.{crlf}
+use Rattle.h1_spec.specs.Framing.{framing}
+use Rattle.h1_spec.specs.Bodies.{IsBody}
+use Rattle.bh_spec.proofs.Marks.{content-append}
+use Rattle.h1_spec.specs.Marks.{as_content, as_framing, IsMarkedChunk, IsMarkedBody}
+use Rattle.h1_spec.specs.Laws.{MarksTheContent}
+
+framing_none : (bytes : List ℕ) → content_in (as_framing bytes) ≡ 0
+framing_none [] = refl
+framing_none (x ∷ bytes) = omega (arith, framing_none bytes)
+
+content_all : (bytes : List ℕ) → content_in (as_content bytes) ≡ length bytes
+content_all [] = refl
+content_all (x ∷ bytes) = omega (arith, content_all bytes)
+
+chunk_count : (chunk : List ℕ) (t : Text) → IsMarkedChunk chunk t → content_in t ≡ length chunk
+chunk_count chunk t h =
+    ap content_in h.2
+    ∙ omega (arith, content-append (as_framing h.0) (as_content chunk ++ as_framing crlf), framing_none h.0, content-append (as_content chunk) (as_framing crlf), content_all chunk, framing_none crlf)
+
+chunks_count : (chunks : List (List ℕ)) (t : Text) → AreEach IsMarkedChunk chunks t → content_in t ≡ length (concat chunks)
+chunks_count [] t h = ap content_in h
+chunks_count (chunk ∷ rest) t h =
+    ap content_in h.4
+    ∙ omega (arith, content-append h.0 h.1, chunk_count chunk h.0 h.2, chunks_count rest h.1 h.3, length-append chunk (concat rest))
+
+body_count : (L : Bounds) (f : Framing1) (content : List ℕ) (trailers : List Field) (bytes : List ℕ) (t : Text) → IsBody L f content trailers bytes → IsMarkedBody f content t → content_in t ≡ length content
+body_count L Empty content trailers bytes t b h = ap content_in h ∙ ap length (sym b.0)
+body_count L (Counted n) content trailers bytes t b h = ap content_in h ∙ content_all content
+body_count L ToEnd content trailers bytes t b h = ap content_in h ∙ content_all content
+body_count L Chunked content trailers bytes t b h =
+    ap content_in h.split ∙ omega (arith, content-append h.text (as_framing h.behind), framing_none h.behind, chunks_count h.chunks h.text h.marked, ap length h.joined)
+
+pub marks_the_content : MarksTheContent
+marks_the_content L to_head m t h =
+    let behind = h.whole.text.3 in
+    ap content_in h.split
+    ∙ omega (
+      arith,
+      content-append (as_framing h.heads) h.body,
+      framing_none h.heads,
+      body_count L (framing to_head h.whole.head) m.content h.whole.trailers behind.1 h.body behind.3 h.marked,
+    )
