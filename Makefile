@@ -1,8 +1,9 @@
-# Builds, tests and installs `bhttp`. Beside the toolchain's `rt`, `install` needs GNU install, and `measure` Python 3 and dd on Linux.
+# Builds, tests and installs `bhttp`. Beside the toolchain's `rt`, `install` needs GNU install, `corpus` Python 3, and `measure` Python 3
+# and dd on Linux.
 PREFIX ?= /usr/local
 PROGRAM = crates/bhttp/out/bhttp
 
-.PHONY: all check examples measure install uninstall
+.PHONY: all check examples corpus manual measure install uninstall
 
 # proves all, and builds the program; it runs it once, on an example
 all:
@@ -16,12 +17,21 @@ check:
 examples: all
 	examples/check $(PROGRAM)
 
+# the program on each case of the corpus
+corpus: all
+	corpus/check $(PROGRAM)
+
+# the manual page, where there is mandoc
+manual:
+	if command -v mandoc >/dev/null; then mandoc -T lint -W warning docs/bhttp.1; fi
+
 # time and memory of the program, beside dd
 measure: all
 	scripts/measure $(PROGRAM)
 
 install: all
 	install -D -m 755 $(PROGRAM) $(DESTDIR)$(PREFIX)/bin/bhttp
+	install -D -m 644 docs/bhttp.1 $(DESTDIR)$(PREFIX)/share/man/man1/bhttp.1
 
 uninstall:
-	rm -f $(DESTDIR)$(PREFIX)/bin/bhttp
+	rm -f $(DESTDIR)$(PREFIX)/bin/bhttp $(DESTDIR)$(PREFIX)/share/man/man1/bhttp.1
