@@ -4,7 +4,7 @@ use Rattle.std.proofs.Math.Seq.{take-length}
 use Rattle.bh_spec.specs.declared.Form.{Form}
 use Rattle.bh_spec.specs.declared.Part.{Part}
 use Rattle.bh_spec.specs.Bounds.{Bounds, no_bounds}
-use Rattle.bh_spec.specs.Pieces.{SomeOf, CanBecome, IsRefused, IsDead, IsLimit}
+use Rattle.bh_spec.specs.Pieces.{SomeOf, CanBecome, IsNext, IsRefused, IsDead, IsLimit}
 use Rattle.bh_spec.specs.Texts.{Text, bytes_of}
 use Rattle.bh_model.specs.declared.field.Place.TheVariants.{Trailer}
 use Rattle.bh_fields.specs.Middle.{SectionView, begun_view, Rest as section_rest}
@@ -21,11 +21,12 @@ use Rattle.bh_push.specs.declared.course.Stepped.TheVariants as stepped
 use Rattle.bh_push.specs.Bodies.{at_of, IsBody, Becomes, IsContent}
 use Rattle.bh_push.specs.Completing.{PaddingRest}
 use Rattle.bh_push.specs.Decoders.{At, Rest, length_part, behind_content, in_trailers}
+use Rattle.bh_push.specs.Hands.{kind_of_shown, kind_at}
 use Rattle.bh_push.specs.Standing.{Comes, head_behind, LinesAre, EndsWith}
 use Rattle.bh_control.specs.Control.{ControlState}
-use Rattle.bh_push.specs.Courses.{head_shown, shown_head, shown_lines, InSection, Stays, IsFull, head_of, at_by, place_of, zeros_of, IsSection, IsCourse, IsOpenBy, IsOpen, Taken, Says}
+use Rattle.bh_push.specs.Courses.{head_shown, shown_head, shown_lines, InSection, Stays, Halts, kind_now, IsFull, head_of, at_by, place_of, zeros_of, IsSection, IsCourse, IsOpenBy, IsOpen, Taken, Says}
 use Rattle.bh_push.proofs.Begun.{section_begun, yields_into}
-use Rattle.bh_push.proofs.Courses.{Shown, stays_in, head_kept, same_lines_shown, taken_of, dead_of, keeps}
+use Rattle.bh_push.proofs.Courses.{Shown, body_kind, halts_at, comes_here, stays_in, head_kept, same_lines_shown, taken_of, dead_of, keeps}
 use Rattle.bh_push.proofs.Walking.{lines_on}
 use Rattle.bh_push.proofs.Ends.{content_behind}
 
@@ -89,11 +90,14 @@ content_some c d piece bytes taken e f o h body k = (
 )
 
 pub content_refused : (c d : Course) (piece : List ℕ) (offset : ℕ) (form : Form) (part : Part) → c.stage ≡ stages.Content → d.stage ≡ stages.Content → IsOpen c → KeepsReaders c d → form ≡ c.body.form → part ≡ length_part form
-    → ((L : Bounds) → IsDead (SomeOf (Rest L (at_body c))) (SomeOf (Rest no_bounds (at_body c))) [] piece offset (length_part c.body.form)) → Says c piece (stepped.Dead offset part) d
-content_refused c d piece offset form part e stays o k f g h =
+    → ((L : Bounds) → IsDead (SomeOf (Rest L (at_body c))) (SomeOf (Rest no_bounds (at_body c))) [] piece offset (length_part c.body.form))
+    → (phase : Phase) (number : List ℕ) → Becomes (at_body c) (take offset piece) [] (at_of phase c.body.form number) → Says c piece (stepped.Dead offset part) d
+content_refused c d piece offset form part e stays o k f g h phase number b =
     subst (λ (p : Part). Says c piece (stepped.Dead offset p) d) (sym (g ∙ ap length_part f)) (dead_of c d piece offset (length_part c.body.form) stages.Content e (h c.limits)
     (stays_in c d stages.Content e stays o k.limits (ap (λ (x : ControlState). x.limits) k.control) (ap (λ (x : SectionView). x.limits) k.section)
-    (head_kept c d k.control k.status) (inr (kept_outside c d k))))
+    (head_kept c d k.control k.status) (inr (kept_outside c d k)))
+    (halts_at c d piece offset stages.Content (at_of phase c.body.form number) e stays k.status (b c.limits)
+    (λ shown. body_kind phase c.body.form number shown ∙ sym (body_kind c.body.phase c.body.form c.body.number shown))))
 
 -- ---- the first bytes of the trailer section
 
@@ -225,26 +229,47 @@ taken_so c b d form v piece taken yields h t =
       };
     }
 
+-- the kind stays
+kind_begun : (c b : Course) (form : Form) (v : SectionView) → Begins c b form v → kind_now b ≡ kind_now c
+kind_begun c b form v h =
+    ap (λ (x : At). kind_at x (shown_head b)) (place_begun c b form v h) ∙ ap kind_of_shown h.head ∙ ap (λ (x : At). kind_at x (shown_head c)) (place_over c b form v h)
+
+-- A byte that is refused at once stood behind the content; another in the section.
+halts_so : (c b d : Course) (form : Form) (v : SectionView) (piece : List ℕ) (offset : ℕ) (part : Part) → Begins c b form v → IsRefused (SomeOf (Rest c.limits (place_of c))) [] piece offset part
+    → Halts b piece offset d → Halts c piece offset d
+halts_so c b d form v piece zero part h r s = record { at = place_of c; comes = comes_here c.limits (place_of c) part r.next; there = refl; kind = s.kind ∙ kind_begun c b form v h }
+halts_so c b d form v piece (suc n) part h r s =
+    let cut = cons_taken piece (suc n) (omega arith) (omega (arith, r.inside)) in
+    let m : Comes b.limits (in_trailers form (begun_view form Trailer v)) (take (suc n) piece) [] s.at =
+    subst (λ (x : At). Comes b.limits x (take (suc n) piece) [] s.at) (place_begun c b form v h) s.comes in
+    let i : Comes c.limits (behind_content form) (take (suc n) piece) [] s.at =
+    behind_moves c.limits form v (take (suc n) piece) [] s.at cut.0 cut.1 cut.2
+    (subst (λ (L : Bounds). Comes L (in_trailers form (begun_view form Trailer v)) (take (suc n) piece) [] s.at) h.limits m) in
+    record {
+      at = s.at;
+      comes = subst (λ (x : At). Comes c.limits x (take (suc n) piece) [] s.at) (place_over c b form v h) i;
+      there = ap (kind_at s.at) (sym h.head) ∙ s.there ∙ kind_begun c b form v h;
+      kind = s.kind ∙ kind_begun c b form v h;
+    }
+
 pub behind_says : (c b d : Course) (form : Form) (v : SectionView) (piece : List ℕ) (r : Stepped) → Begins c b form v → Says b piece r d → Says c piece r d
 behind_says c b d form v piece (stepped.On taken) h s = taken_so c b d form v piece taken [] h s
 behind_says c b d form v piece (stepped.Interim taken status) h s = taken_so c b d form v piece taken (interim_response status d.section.lines ∷ []) h s
 behind_says c b d form v piece (stepped.Head taken) h s = taken_so c b d form v piece taken (head (head_of d.status d.control.control) d.section.lines ∷ []) h s
 behind_says c b d form v piece (stepped.Content taken bytes) h s = (taken_so c b d form v piece taken (map content_byte bytes.now) h s.0, s.1, s.2)
 behind_says c b d form v piece (stepped.Trailers taken) h s = taken_so c b d form v piece taken (trailer_section d.section.lines ∷ []) h s
-behind_says c b d form v piece (stepped.Dead offset part) h s = (
-  subst (λ (x : At). IsDead (SomeOf (Rest c.limits x)) (SomeOf (Rest no_bounds x)) [] piece offset part) (place_over c b form v h)
-      (behind_dead c.limits form v piece offset part
-      (subst (λ (x : At). IsDead (SomeOf (Rest c.limits x)) (SomeOf (Rest no_bounds x)) [] piece offset part) (place_begun c b form v h)
-      (subst (λ (L : Bounds). IsDead (SomeOf (Rest L (place_of b))) (SomeOf (Rest no_bounds (place_of b))) [] piece offset part) h.limits s.0))),
-  stays_so c b d form v h s.1,
-)
-behind_says c b d form v piece (stepped.Limit offset part) h s = (
-  subst (λ (x : At). IsLimit (SomeOf (Rest c.limits x)) (SomeOf (Rest no_bounds x)) [] piece offset part) (place_over c b form v h)
-      (behind_limit c.limits form v piece offset part
-      (subst (λ (x : At). IsLimit (SomeOf (Rest c.limits x)) (SomeOf (Rest no_bounds x)) [] piece offset part) (place_begun c b form v h)
-      (subst (λ (L : Bounds). IsLimit (SomeOf (Rest L (place_of b))) (SomeOf (Rest no_bounds (place_of b))) [] piece offset part) h.limits s.0))),
-  stays_so c b d form v h s.1,
-)
+behind_says c b d form v piece (stepped.Dead offset part) h s =
+    let dead = subst (λ (x : At). IsDead (SomeOf (Rest c.limits x)) (SomeOf (Rest no_bounds x)) [] piece offset part) (place_over c b form v h)
+    (behind_dead c.limits form v piece offset part
+    (subst (λ (x : At). IsDead (SomeOf (Rest c.limits x)) (SomeOf (Rest no_bounds x)) [] piece offset part) (place_begun c b form v h)
+    (subst (λ (L : Bounds). IsDead (SomeOf (Rest L (place_of b))) (SomeOf (Rest no_bounds (place_of b))) [] piece offset part) h.limits s.0))) in
+    (dead, stays_so c b d form v h s.1, halts_so c b d form v piece offset part h dead.refused s.2)
+behind_says c b d form v piece (stepped.Limit offset part) h s =
+    let limit = subst (λ (x : At). IsLimit (SomeOf (Rest c.limits x)) (SomeOf (Rest no_bounds x)) [] piece offset part) (place_over c b form v h)
+    (behind_limit c.limits form v piece offset part
+    (subst (λ (x : At). IsLimit (SomeOf (Rest c.limits x)) (SomeOf (Rest no_bounds x)) [] piece offset part) (place_begun c b form v h)
+    (subst (λ (L : Bounds). IsLimit (SomeOf (Rest L (place_of b))) (SomeOf (Rest no_bounds (place_of b))) [] piece offset part) h.limits s.0))) in
+    (limit, stays_so c b d form v h s.1, halts_so c b d form v piece offset part h limit.refused s.2)
 
 -- the head is shown behind the content
 pub over_head : (c : Course) → c.stage ≡ stages.Content → Some (head_of c.status c.control.control) ≡ shown_head c

@@ -84,6 +84,13 @@ Says form v piece (body_steps.Over taken) w = (taken ≤ length piece) × (w ≡
 Says form v piece (body_steps.Dead offset) w = (L : Bounds)
     → IsDead (SomeOf (Rest L v)) (SomeOf (Rest no_bounds v)) [] piece offset (length_part form)
 
+-- where a byte stood that is refused: the bytes of the piece before it lead there and yield nothing
+abbrev pub StoodIn : Form → At → List ℕ → BodyStep → Type 0
+StoodIn form v piece body_steps.Need = Unit {0}
+StoodIn form v piece (body_steps.Content taken bytes) = Unit {0}
+StoodIn form v piece (body_steps.Over taken) = Unit {0}
+StoodIn form v piece (body_steps.Dead offset) = (phase : Phase) × (number : List ℕ) × Becomes v (take offset piece) [] (at_of phase form number)
+
 -- and what it knows then
 abbrev pub IsBodyBehind : BodyStep → Phase → List ℕ → Type 0
 IsBodyBehind body_steps.Need phase number = IsBody phase number

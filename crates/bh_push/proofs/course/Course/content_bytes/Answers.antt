@@ -22,4 +22,4 @@ pub returns-in-Dead : goal.returns-in-Dead
 returns-in-Dead c =
     content_refused c.args.self.now _ c.args.piece.now c.in-Dead.offset c.push.new.self.form c.length_part.result c.requires.stage c.requires.stage c.requires.open
     (record { limits = refl; control = refl; status = refl; section = refl }) c.in-Dead.ensures.form c.length_part.ensures
-    c.in-Dead.ensures.says
+    c.in-Dead.ensures.says c.in-Dead.ensures.stood.0 c.in-Dead.ensures.stood.1 c.in-Dead.ensures.stood.2
