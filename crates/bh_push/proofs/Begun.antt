@@ -196,6 +196,7 @@ walked_begun c b piece R s at a q t r e hidden silent inside limits opened = rec
   zeros = omega (arith, a.zeros);
   head = silent ∙ sym (ap (λ (x : Stage). head_shown x (head_of c.status c.control.control)) e ∙ hidden);
   lines = inl inside;
+  right = tt;
 }
 
 -- a section of this head

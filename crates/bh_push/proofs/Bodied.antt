@@ -20,9 +20,9 @@ use Rattle.bh_push.specs.declared.course.Stepped.{Stepped}
 use Rattle.bh_push.specs.declared.course.Stepped.TheVariants as stepped
 use Rattle.bh_push.specs.Bodies.{at_of, IsBody, Becomes, IsContent}
 use Rattle.bh_push.specs.Completing.{PaddingRest}
-use Rattle.bh_push.specs.Decoders.{At, Rest, length_part, behind_content, in_trailers}
+use Rattle.bh_push.specs.Decoders.{At, Rest, length_part, behind_content, in_trailers, IsBehindContent}
 use Rattle.bh_push.specs.Hands.{kind_of_shown, kind_at}
-use Rattle.bh_push.specs.Standing.{Comes, head_behind, LinesAre, EndsWith}
+use Rattle.bh_push.specs.Standing.{Comes, head_behind, LinesAre, IsRight, EndsWith}
 use Rattle.bh_control.specs.Control.{ControlState}
 use Rattle.bh_push.specs.Courses.{head_shown, shown_head, shown_lines, InSection, Stays, Halts, kind_now, IsFull, head_of, at_by, place_of, zeros_of, IsSection, IsCourse, IsOpenBy, IsOpen, Taken, Says}
 use Rattle.bh_push.proofs.Begun.{section_begun, yields_into}
@@ -54,7 +54,7 @@ content_lines_in c d [] some k = absurd (omega (arith, some))
 content_lines_in c d (b ∷ bytes) some k = kept_outside c d k
 
 nothing_shown : (c d : Course) → KeepsReaders c d → Shown c d [] stages.Content stages.Content
-nothing_shown c d k = record { head = head_kept c d k.control k.status; lines = inr (kept_outside c d k) }
+nothing_shown c d k = record { head = head_kept c d k.control k.status; lines = inr (kept_outside c d k); right = tt }
 
 content_taken : (c d : Course) (piece : List ℕ) (taken : ℕ) (yields : List Item) → c.stage ≡ stages.Content → d.stage ≡ stages.Content → IsOpen c → 0 < taken → taken ≤ length piece
     → Becomes (at_body c) (take taken piece) yields (at_body d) → IsBody d.body.phase d.body.number → KeepsReaders c d
@@ -79,12 +79,16 @@ some_of piece [] [] zero some e = absurd (omega (arith, some))
 some_of piece [] (b ∷ bytes) zero some e = absurd cc
 some_of piece (x ∷ front) bytes zero some e = absurd cc
 
+content_right : (bytes : List ℕ) (w : At) → 0 < length bytes → IsBehindContent w → IsRight (map content_byte bytes) w
+content_right [] w some r = absurd (omega (arith, some))
+content_right (b ∷ bytes) w some r = r
+
 pub content_some : (c d : Course) (piece bytes : List ℕ) (taken : ℕ) → c.stage ≡ stages.Content → d.stage ≡ stages.Content → IsOpen c → IsContent (at_body c) piece taken bytes (at_body d)
-    → IsBody d.body.phase d.body.number → KeepsReaders c d
+    → IsBody d.body.phase d.body.number → KeepsReaders c d → IsBehindContent (at_body d)
     → Taken c piece taken (map content_byte bytes) d × EndsWith piece taken bytes × IsFull piece taken (place_of d)
-content_some c d piece bytes taken e f o h body k = (
+content_some c d piece bytes taken e f o h body k r = (
   content_taken c d piece taken (map content_byte bytes) e f o (some_of piece h.ends.0 bytes taken h.some h.ends.1) h.inside h.becomes body k
-      (record { head = head_kept c d k.control k.status ∙ sym (content_head bytes (Some (head_of c.status c.control.control))); lines = content_lines_in c d bytes h.some k }),
+      (record { head = head_kept c d k.control k.status ∙ sym (content_head bytes (Some (head_of c.status c.control.control))); lines = content_lines_in c d bytes h.some k; right = content_right bytes (at_body d) h.some r }),
   record { some = h.some; front = h.ends.0; ends = h.ends.1 },
   subst (λ (s : Stage). IsFull piece taken (at_by s d)) (sym f) h.all,
 )
@@ -226,6 +230,7 @@ taken_so c b d form v piece taken yields h t =
         zeros = subst (λ (s : Stage). zeros_of d.stage ≤ zeros_of s + taken) (sym h.content) (subst (λ (s : Stage). zeros_of d.stage ≤ zeros_of s + taken) h.stage a.zeros);
         head = a.head ∙ ap (head_behind yields) h.head;
         lines = lines_on c b d yields (inl (inside_trailers c b form v h)) a.lines;
+        right = a.right;
       };
     }
 

@@ -30,7 +30,7 @@ use Rattle.bh_push.specs.Bodies.{at_of, IsBody}
 use Rattle.bh_push.specs.Decoders.{At, Rest, in_header, behind_head, in_trailers, in_padding}
 use Rattle.bh_push.specs.Hands.{kind_of_head, kind_of_shown, kind_at}
 use Rattle.bh_push.specs.Ending.{kind_by_status}
-use Rattle.bh_push.specs.Standing.{Comes, head_behind, LinesAre}
+use Rattle.bh_push.specs.Standing.{Comes, head_behind, LinesAre, IsRight}
 use Rattle.bh_push.specs.Courses.{head_shown, shown_head, lines_in, shown_lines, InSection, LinesKept, Stays, Halts, kind_now, head_of, at_by, place_of, zeros_of, IsSection, IsCourse, IsOpenBy, IsOpen, Taken, Says, IsAt}
 use Rattle.bh_spec.proofs.Residuals.{residual_here, residual_step}
 use Rattle.bh_spec.proofs.Pieces.{next_becomes, next_unfinished}
@@ -44,6 +44,7 @@ use Rattle.bh_push.proofs.Sections.{header_goes_on, header_whole, header_dead, h
 pub record Shown (c d : Course) (yields : List Item) (s t : Stage) : Type 0 where
   pub head : head_shown t (head_of d.status d.control.control) ≡ head_behind yields (head_shown s (head_of c.status c.control.control))
   pub lines : LinesAre yields (InSection t) ((InSection s → ⊥) × (shown_lines d ≡ shown_lines c)) (shown_lines d)
+  pub right : IsRight yields (at_by t d)
 
 pub taken_of : (c d : Course) (piece : List ℕ) (taken : ℕ) (yields : List Item) (s t : Stage) → c.stage ≡ s → d.stage ≡ t → 0 < taken → taken ≤ length piece
     → Comes c.limits (at_by s c) (take taken piece) yields (at_by t d) → d.limits ≡ c.limits → IsCourse d → IsOpenBy t d → zeros_of t ≤ zeros_of s + taken → Shown c d yields s t
@@ -61,6 +62,7 @@ taken_of c d piece taken yields s t e f some inside comes limits course at zeros
         (subst (λ (x : Stage). head_shown t (head_of d.status d.control.control) ≡ head_behind yields (head_shown x (head_of c.status c.control.control))) (sym e) shown.head);
     lines = subst (λ (x : Stage). LinesAre yields (InSection x) (LinesKept c d) (shown_lines d)) (sym f)
         (subst (λ (x : Stage). LinesAre yields (InSection t) ((InSection x → ⊥) × (shown_lines d ≡ shown_lines c)) (shown_lines d)) (sym e) shown.lines);
+    right = subst (λ (x : Stage). IsRight yields (at_by x d)) (sym f) shown.right;
   };
 }
 
@@ -252,7 +254,7 @@ header_need c d form piece e f o some b g limits control same =
     taken_of c d piece (length piece) [] (stages.Header form) (stages.Header form) e f some (omega arith)
     (subst (λ (x : List ℕ). Comes c.limits (in_header form of v) x [] (in_header form (head_of d.status d.control.control) w)) (sym (take-length piece))
     (subst (λ (x : Head). Comes c.limits (in_header form of v) piece [] (in_header form x w)) same n))
-    limits (keeps c d o.course limits control b.limits) (section_on v w piece s b g) (omega arith) (record { head = refl; lines = inl tt })
+    limits (keeps c d o.course limits control b.limits) (section_on v w piece s b g) (omega arith) (record { head = refl; lines = inl tt; right = tt })
 
 -- what a reader refuses
 pub dead_in : (L M : Bounds) (v : At) (piece : List ℕ) (offset : ℕ) (part : Part) → M ≡ L → IsDead (SomeOf (Rest M v)) (SomeOf (Rest no_bounds v)) [] piece offset part
@@ -287,7 +289,7 @@ header_end c d form piece taken e f formed headed none o ends b limits control s
     taken_of c d piece taken (head (head_of d.status d.control.control) w.lines ∷ []) (stages.Header form) stages.Content e f (whole_some v piece taken s ends) ends.within
     (subst (λ (x : At). Comes c.limits (in_header form of v) (take taken piece) (head (head_of d.status d.control.control) w.lines ∷ []) x) here
     (subst (λ (x : Head). Comes c.limits (in_header form of v) (take taken piece) (head x w.lines ∷ []) (behind_head form)) same n))
-    limits (keeps c d o.course limits control b.limits) (subst (λ (x : Phase). IsBody x d.body.number) (sym headed) none) (omega arith) (record { head = refl; lines = whole_lines d b.stage })
+    limits (keeps c d o.course limits control b.limits) (subst (λ (x : Phase). IsBody x d.body.number) (sym headed) none) (omega arith) (record { head = refl; lines = whole_lines d b.stage; right = (form, sym here) })
 
 -- a section goes on up to a byte that is refused
 pub refused_on : (v : SectionView) (piece : List ℕ) (offset : ℕ) (part : Part) → IsSection v → IsRefused (IsWanted v) [] piece offset part → GoesOn (IsWanted v) [] (take offset piece)
@@ -337,7 +339,7 @@ trailers_need c d form piece e f o some b g limits control status =
     let n : Comes c.limits (in_trailers form v) piece [] (in_trailers form w) = subst (λ (L : Bounds). Comes L (in_trailers form v) piece [] (in_trailers form w)) o.course.section m in
     taken_of c d piece (length piece) [] (stages.Trailers form) (stages.Trailers form) e f some (omega arith)
     (subst (λ (x : List ℕ). Comes c.limits (in_trailers form v) x [] (in_trailers form w)) (sym (take-length piece)) n)
-    limits (keeps c d o.course limits (ap (λ (x : ControlState). x.limits) control) b.limits) (section_on v w piece s b g) (omega arith) (record { head = head_kept c d control status; lines = inl tt })
+    limits (keeps c d o.course limits (ap (λ (x : ControlState). x.limits) control) b.limits) (section_on v w piece s b g) (omega arith) (record { head = head_kept c d control status; lines = inl tt; right = tt })
 
 pub trailers_end : (c d : Course) (form : Form) (piece : List ℕ) (taken : ℕ) → c.stage ≡ stages.Trailers form → d.stage ≡ stages.Padding 0 → IsOpen c → SectionShows c.section piece (sections.Whole taken)
     → IsBehind c.section piece (sections.Whole taken) d.section → d.limits ≡ c.limits → d.control ≡ c.control → d.status ≡ c.status → Says c piece (stepped.Trailers taken) d
@@ -349,7 +351,7 @@ trailers_end c d form piece taken e f o ends b limits control status =
     trailers_whole form v w (take taken piece) w.lines s.left b.leads.0 (same_lines v w piece taken b) (free_lines v w piece taken s b) in
     taken_of c d piece taken (trailer_section w.lines ∷ []) (stages.Trailers form) (stages.Padding 0) e f (whole_some v piece taken s ends) ends.within
     (subst (λ (L : Bounds). Comes L (in_trailers form v) (take taken piece) (trailer_section w.lines ∷ []) (in_padding 0)) o.course.section m)
-    limits (keeps c d o.course limits (ap (λ (x : ControlState). x.limits) control) b.limits) tt (omega arith) (record { head = head_kept c d control status; lines = whole_lines d b.stage })
+    limits (keeps c d o.course limits (ap (λ (x : ControlState). x.limits) control) b.limits) tt (omega arith) (record { head = head_kept c d control status; lines = whole_lines d b.stage; right = refl })
 
 trailers_halts : (c d : Course) (form : Form) (piece : List ℕ) (offset : ℕ) (part : Part) → c.stage ≡ stages.Trailers form → d.stage ≡ stages.Trailers form → IsOpen c → d.status ≡ c.status
     → IsRefused (IsWanted c.section) [] piece offset part → (u : SectionView) → IsOnTheWay c.section (take offset piece) u → Halts c piece offset d
@@ -394,7 +396,7 @@ padding_on c d before (byte ∷ piece) e f o some is limits control status secti
     (subst (λ (x : ℕ). Comes c.limits (in_padding before) (x ∷ []) [] (in_padding (before + 1))) (sym is)
     (record { within = step c.limits; anyway = step no_bounds; goes_on = padding_some c.limits (before + 1) }))
     limits (keeps c d o.course limits (ap (λ (x : ControlState). x.limits) control) (ap (λ (x : SectionView). x.limits) section)) tt (omega arith)
-    (record { head = head_kept c d control status; lines = inr (λ x. x, same_lines_shown c d section) })
+    (record { head = head_kept c d control status; lines = inr (λ x. x, same_lines_shown c d section); right = tt })
   where
     step : (K : Bounds) → IsResidual (Rest K (in_padding before)) (0 ∷ []) (λ q. q) (Rest K (in_padding (before + 1)))
     step K = residual_step (Rest K (in_padding before)) parts.Padding 0 (λ q. q) (Rest K (in_padding (before + 1))) (padding_zero K before)

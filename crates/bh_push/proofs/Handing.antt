@@ -1,5 +1,5 @@
 -- What a walk says of a decoder, within the limit of the input.
-use Rattle.std.proofs.Common.{◌≡◌, ◌<◌, ◌≤◌, ◌+◌, ◌-◌, ℕ, Option, Some, None, List, [], ◌∷◌, ◌++◌, length, take, drop, refl, sym, ap, subst, ◌∙◌, inl, inr, ◌⊎◌, arith}
+use Rattle.std.proofs.Common.{◌≡◌, ◌<◌, ◌≤◌, ◌+◌, ◌-◌, ℕ, Option, Some, None, List, [], ◌∷◌, ◌++◌, length, take, drop, map, refl, sym, ap, subst, ◌∙◌, inl, inr, ◌⊎◌, arith}
 use Rattle.std.proofs.Math.Seq.{take-add}
 use Rattle.bh_spec.specs.declared.Form.{Form}
 use Rattle.bh_spec.specs.declared.Part.{Part}
@@ -18,8 +18,8 @@ use Rattle.bh_push.specs.declared.course.Stage.TheVariants as stages
 use Rattle.bh_push.specs.declared.body.Phase.{Phase}
 use Rattle.bh_push.specs.declared.body.Phase.TheVariants as phases
 use Rattle.bh_push.specs.Bodies.{at_of}
-use Rattle.bh_push.specs.Decoders.{At, Rest}
-use Rattle.bh_push.specs.Standing.{Comes, LinesAre, EndsWith}
+use Rattle.bh_push.specs.Decoders.{At, Rest, IsBehindContent}
+use Rattle.bh_push.specs.Standing.{Comes, LinesAre, IsRight, EndsWith}
 use Rattle.bh_push.proofs.Walking.{lines_here}
 use Rattle.std.proofs.lemmas.Bool.{cases_lt}
 use Rattle.bh_push.specs.Courses.{shown_head, shown_lines, InSection, LinesKept, Stays, Stood, IsFull, IsDeadAt, IsLimitAt, at_by, place_of, IsSection, IsOpenBy, IsOpen, Walked}
@@ -212,6 +212,11 @@ refuses_again v taken (Some r) given piece e =
 -- an offset within the front is within the limit
 pub fits : (v : Course) (taken most : ℕ) (refusal : Option Refusal) (piece within : List ℕ) (count : ℕ) → Within v taken most refusal piece within → count ≤ length within → taken + count ≤ most
 fits v taken most refusal piece within count g h = omega (arith, g.few, h, front_long piece within (most - taken) g.front)
+
+-- behind content the place is right, whichever bytes it was
+pub right_content : (bytes : List ℕ) (w : At) → 0 < length bytes → IsRight (map content_byte bytes) w → IsBehindContent w
+right_content [] w some r = absurd (omega (arith, some))
+right_content (b ∷ bytes) w some r = r
 
 -- ---- no event stands where the decoder does
 

@@ -73,7 +73,7 @@ control_need c d form piece e f o some b g limits section =
     (subst (λ (x : List ℕ). Comes c.limits (in_control form (read_in v)) x [] (in_control form (read_in w))) (sym (take-length piece))
     (subst (λ (L : Bounds). Comes L (in_control form (read_in v)) piece [] (in_control form (read_in w))) o.course.control m))
     limits (keeps c d o.course limits b.limits (ap (λ (x : SectionView). x.limits) section)) (control_on v w piece s b g) (omega arith)
-    (record { head = refl; lines = inr (λ x. x, same_lines_shown c d section) })
+    (record { head = refl; lines = inr (λ x. x, same_lines_shown c d section); right = tt })
 
 -- behind its last byte stands the header section
 pub control_end : (c d : Course) (form : Form) (piece : List ℕ) (taken : ℕ) → c.stage ≡ stages.Control form → d.stage ≡ stages.BeforeHeader form → IsOpen c
@@ -92,7 +92,7 @@ control_end c d form piece taken e f o ends b none limits section =
     taken_of c d piece taken [] (stages.Control form) (stages.BeforeHeader form) e f (some_taken (state_rest v.limits v) piece taken s.more ends) ends.within
     (subst (λ (x : Head). Comes c.limits (in_control form (read_in v)) (take taken piece) [] (before_header form x)) (sym (ap (λ (x : Option ℕ). head_of x w.control) none)) n)
     limits (keeps c d o.course limits b.limits (ap (λ (x : SectionView). x.limits) section)) tt (omega arith)
-    (record { head = refl; lines = inr (λ x. x, same_lines_shown c d section) })
+    (record { head = refl; lines = inr (λ x. x, same_lines_shown c d section); right = tt })
 
 control_halts : (c d : Course) (form : Form) (piece : List ℕ) (offset : ℕ) (part : Part) → c.stage ≡ stages.Control form → d.stage ≡ stages.Control form → IsOpen c → d.status ≡ c.status
     → IsRefused (IsWanted c.control) [] piece offset part → (u : ControlState) → IsOnTheWay c.control (take offset piece) u → Halts c piece offset d
@@ -141,7 +141,7 @@ framing_on c d piece e f o some kept' live un limits control section =
     (subst (λ (x : List ℕ). Comes c.limits (in_framing c.number) x [] (in_framing d.number)) (sym (take_one piece some))
     (subst (λ (x : List ℕ). Comes c.limits (in_framing c.number) (get_or piece 0 0 ∷ []) [] (in_framing x)) (sym kept') m))
     limits (keeps c d o.course limits control (ap (λ (x : SectionView). x.limits) section)) (subst (IsCounted (numbers 0 3)) (sym kept') (record { live = live; unfinished = un })) (omega arith)
-    (record { head = refl; lines = inr (λ x. x, same_lines_shown c d section) })
+    (record { head = refl; lines = inr (λ x. x, same_lines_shown c d section); right = tt })
 
 pub framing_end : (c d : Course) (piece : List ℕ) (n : ℕ) (w : Width) → c.stage ≡ stages.Framing → IsOpen c → 0 < length piece → IsWhole (numbers 0 3) (c.number ++ get_or piece 0 0 ∷ []) n w
     → IsOpen d → d.limits ≡ c.limits → FollowsFraming n d → IsSilent c d → Says c piece (stepped.On 1) d
@@ -157,7 +157,7 @@ framing_end c d piece n w e o some whole stays limits follows same =
     (subst (λ (x : List ℕ). Comes c.limits (in_framing c.number) x [] (place_of d)) (sym (take_one piece some))
     (moves_at c.limits (in_framing c.number) (λ K. AfterFraming K k) d (get_or piece 0 0 ∷ []) [] m follows.at))
     limits stays.course stays.at (omega (arith, follows.at.zeros))
-    (record { head = same.head; lines = inr (λ x. x, same_lines_shown c d same.section) })
+    (record { head = same.head; lines = inr (λ x. x, same_lines_shown c d same.section); right = tt })
 
 pub framing_refused : (c d : Course) (piece : List ℕ) → c.stage ≡ stages.Framing → d.stage ≡ stages.Framing → IsOpen c → d.limits ≡ c.limits → d.control.limits ≡ c.control.limits
     → d.section ≡ c.section → d.status ≡ c.status → 0 < length piece → (SomeBegins (numbers 0 3) (c.number ++ get_or piece 0 0 ∷ []) → ⊥)

@@ -72,7 +72,7 @@ status_on c d form before least piece e f o some is kept' g limits control secti
           (record { live = g.begins; unfinished = g.unfinished })),
     )
     (omega arith)
-    (record { head = refl; lines = inr (λ x. x, same_lines_shown c d section) })
+    (record { head = refl; lines = inr (λ x. x, same_lines_shown c d section); right = tt })
 
 pub status_low : (L : Bounds) (before least n : ℕ) → IsLeastStatus L before least → least ≤ n → 100 ≤ n
 status_low L before least n (inl e) h = omega (arith, e.0, h)
@@ -101,7 +101,7 @@ status_end c d form before least n w piece e o some is whole high low few stays 
     ends m z = taken_of c d piece 1 [] (stages.Status form before) d.stage e refl (omega arith) (omega (arith, some))
         (subst (λ (x : List ℕ). Comes c.limits (in_status form before c.number) x [] (place_of d)) (sym (take_one piece some)) m)
         limits stays.course stays.at (omega (arith, z))
-        (record { head = same.head; lines = inr (λ x. x, same_lines_shown c d same.section) })
+        (record { head = same.head; lines = inr (λ x. x, same_lines_shown c d same.section); right = tt })
 
     at : IsWithin c.limits.interims before → IsUnfinished c.number → (n < 200) ⊎ (200 ≤ n) → Says c piece (stepped.On 1) d
     at within un (inl lt) =
@@ -198,7 +198,7 @@ interim_need c d form before status piece e f o some b g limits control =
     (subst (λ (L : Bounds). Comes L (in_interim form before status v) piece [] (in_interim form before status w)) o.course.section m))
     limits (keeps c d o.course limits control b.limits)
     (subst (λ (L : Bounds). IsWithin L.interims (before + 1)) (sym limits) s.0, section_on v w piece s.1 b g) (omega arith)
-    (record { head = refl; lines = inl tt })
+    (record { head = refl; lines = inl tt; right = tt })
 
 pub interim_end : (c d : Course) (form : Form) (before status : ℕ) (piece : List ℕ) (taken : ℕ) → c.stage ≡ stages.Interim form before status → d.stage ≡ stages.Status form (before + 1)
     → d.number ≡ [] → IsOpen c → SectionShows c.section piece (sections.Whole taken) → IsBehind c.section piece (sections.Whole taken) d.section → d.limits ≡ c.limits → d.control.limits ≡ c.control.limits
@@ -218,7 +218,7 @@ interim_end c d form before status piece taken e f none o ends b limits control 
       λ least is. subst (IsCounted (numbers least 599)) (sym none) (counted_nil least (least_few d.limits (before + 1) least is)),
     )
     (omega arith)
-    (record { head = refl; lines = whole_lines d b.stage })
+    (record { head = refl; lines = whole_lines d b.stage; right = (form, before, ap (λ (x : List ℕ). in_status form (before + 1) x) none) })
 
 interim_halts : (c d : Course) (form : Form) (before status : ℕ) (piece : List ℕ) (offset : ℕ) (part : Part) → c.stage ≡ stages.Interim form before status → d.stage ≡ stages.Interim form before status
     → IsOpen c → d.status ≡ c.status → IsRefused (IsWanted c.section) [] piece offset part → (u : SectionView) → IsOnTheWay c.section (take offset piece) u → Halts c piece offset d

@@ -63,6 +63,7 @@ walk_here v piece o alive = record {
   zeros = omega arith;
   head = refl;
   lines = lines_here v;
+  right = tt;
 }
 
 -- bytes behind bytes
@@ -86,6 +87,7 @@ walk_on v w u piece rest i n yields e a taken =
       zeros = omega (arith, a.zeros, t.zeros);
       head = t.head ∙ ap (head_behind yields) a.head;
       lines = lines_on v w u yields a.lines t.lines;
+      right = t.right;
     }
 
 -- a byte is refused behind them

@@ -31,7 +31,7 @@ use Rattle.bh_push.specs.Bodies.{at_of, IsBody}
 use Rattle.bh_push.specs.Completing.{AfterFraming, InterimRest, AfterStart}
 use Rattle.bh_push.specs.Hands.{kind_at}
 use Rattle.bh_push.specs.Decoders.{At, Rest, in_framing, in_control, in_status, before_interim, in_interim, before_header, in_header, in_trailers, in_padding}
-use Rattle.bh_push.specs.Standing.{Comes, IsLeastStatus, read_in, head_behind, LinesAre, EndsWith, IsRunOver}
+use Rattle.bh_push.specs.Standing.{Comes, IsLeastStatus, read_in, head_behind, LinesAre, IsRight, EndsWith, IsRunOver}
 
 -- ---- where it stands
 
@@ -168,6 +168,7 @@ pub record Walked (v : Course) (piece : List ℕ) (taken : ℕ) (yields : List I
   pub zeros : zeros_of w.stage ≤ zeros_of v.stage + taken
   pub head : shown_head w ≡ head_behind yields (shown_head v)
   pub lines : LinesAre yields (InSection w.stage) (LinesKept v w) (shown_lines w)
+  pub right : IsRight yields (place_of w)
 
 -- one at least
 pub record Taken (v : Course) (piece : List ℕ) (taken : ℕ) (yields : List Item) (w : Course) : Type 0 where

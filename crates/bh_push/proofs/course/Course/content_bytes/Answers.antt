@@ -10,7 +10,7 @@ returns-in-Need c =
 pub returns-in-Content : goal.returns-in-Content
 returns-in-Content c =
     content_some c.args.self.now _ c.args.piece.now c.in-Content.bytes.now c.in-Content.taken c.requires.stage c.requires.stage c.requires.open c.in-Content.ensures.says c.in-Content.ensures.body
-    (record { limits = refl; control = refl; status = refl; section = refl })
+    (record { limits = refl; control = refl; status = refl; section = refl }) c.in-Content.ensures.right
 
 pub returns-in-Over : goal.returns-in-Over
 returns-in-Over c =

@@ -2,12 +2,12 @@ use Rattle.std.proofs.Common.{◌+◌, ◌∷◌, [], ◌≡◌, ℕ, List, Some
 use Rattle.bh_spec.specs.declared.Refusal.TheVariants.{Dead, Limit, TooLong}
 use Rattle.bh_spec.proofs.Within.{within_some}
 use Rattle.bh_spec.specs.Items.{interim_response, head, content_byte, trailer_section}
-use Rattle.bh_push.specs.Courses.{head_of}
+use Rattle.bh_push.specs.Courses.{head_of, place_of}
 use Rattle.bh_push.specs.Hands.{Held, Handed, IsLong, Keeps}
 use Rattle.bh_push.specs.Pushes.{Refuses}
 use Rattle.bh_push.specs.Kinds.{KindBehind}
 use Rattle.bh_push.proofs.Inputs.{not_some}
-use Rattle.bh_push.proofs.Handing.{kind_behind, kind_again, stood_behind, Within, view, held, handed_walk, handed_whole, ends_so, long_so, refuses_more, refuses_at, refuses_limit, refuses_again}
+use Rattle.bh_push.proofs.Handing.{right_content, kind_behind, kind_again, stood_behind, Within, view, held, handed_walk, handed_whole, ends_so, long_so, refuses_more, refuses_at, refuses_limit, refuses_again}
 use Rattle.bh_push.proofs.decoder.Decoder.push.Goals as goal
 
 pub returns-in-Some-clause-hands : goal.returns-in-Some-clause-hands
@@ -229,3 +229,18 @@ returns-in-Limit-clause-kind c =
     let r = Limit n c.in-Limit.part in
     subst (λ (v : Held). v.decoder.refusal ≡ None → KindBehind v piece r (held w n (Some r))) c.self.view_is
     (λ none. kind_behind d.course w d.taken most n d.refusal piece within (c.in-Limit.offset) r g (omega (arith, c.in-Limit.ensures.0.refused.inside)) refl c.in-Limit.ensures.2)
+
+-- ---- the place behind an event
+
+pub returns-in-Interim-clause-right : goal.returns-in-Interim-clause-right
+returns-in-Interim-clause-right c = c.in-Interim.ensures.1.right
+
+pub returns-in-Head-clause-right : goal.returns-in-Head-clause-right
+returns-in-Head-clause-right c = c.in-Head.ensures.1.right
+
+pub returns-in-Content-clause-right : goal.returns-in-Content-clause-right
+returns-in-Content-clause-right c =
+    right_content c.in-Content.bytes.now (place_of c.walk.new.self) c.in-Content.ensures.1.some c.in-Content.ensures.0.right
+
+pub returns-in-Trailers-clause-right : goal.returns-in-Trailers-clause-right
+returns-in-Trailers-clause-right c = c.in-Trailers.ensures.1.right
