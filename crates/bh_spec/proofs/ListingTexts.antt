@@ -1,7 +1,8 @@
 -- The texts of lines say all of them.
-use Rattle.std.proofs.Common.{◌≡◌, ◌≢◌, ◌∙◌, ◌<◌, ◌+◌, ◌*◌, ◌/◌, ◌%◌, ◌^◌, ℕ, Bool, true, false, refl, sym, ap, ap₂, List, [], ◌∷◌, ◌++◌, flat_map, arith, append_assoc, codes, slice_index}
-use Rattle.std.proofs.lemmas.Bool.Decides.{nat_tests}
+use Rattle.std.proofs.Common.{◌≡◌, ◌≢◌, ◌∙◌, ◌<◌, ◌+◌, ◌*◌, ◌/◌, ◌%◌, ◌^◌, ◌-◌, ℕ, zero, suc, Bool, true, false, refl, sym, ap, ap₂, List, [], ◌∷◌, ◌++◌, flat_map, arith, append_assoc, codes, slice_index, inl, inr}
+use Rattle.std.proofs.lemmas.Bool.{and_parts, cases_lt, eqb-true}
 use Rattle.std.specs.Bool.{if◌then◌else◌}
+use Rattle.std.specs.Prelude.{◌==◌, ◌&&◌, nat_lt}
 use Rattle.std.specs.List.{list_all, AllByRecursion}
 use Rattle.std.proofs.lemmas.List.{append_cancel_right, append_cancel_left}
 use Rattle.std.proofs.lemmas.Fmt.{decimal_injective}
@@ -40,8 +41,28 @@ same_lines (x ∷ xs) (y ∷ ys) ax ay e =
     ap₂ (λ z zs. z ∷ zs) one.0 (same_lines xs ys ax.1 ay.1 one.1)
 
 -- ---- hexadecimal digits
+
+-- the value of a digit, and the test of the first places of the table, which computes
+abbrev value : ℕ → ℕ
+value byte = if nat_lt byte 58 then byte - 48 else byte - 87
+
+abbrev read_back : ℕ → Bool
+read_back zero = true
+read_back (suc n) = (value (digit n) == n) && read_back n
+
+at_place : (n k : ℕ) → read_back n ≡ true → k < n → value (digit k) ≡ k
+at_place zero k h lt = absurd (omega arith)
+at_place (suc n) k h lt =
+    let parts = and_parts (value (digit n) == n) (read_back n) h in
+    elim (cases_lt k n) [
+      | inl below ↦ at_place n k parts.1 below
+      | inr top ↦
+          let e : k ≡ n = omega arith in
+          rw e (eqb-true (value (digit n)) n parts.0)
+    ]
+
 same_digit : (a b : ℕ) → a < 16 → b < 16 → digit a ≡ digit b → a ≡ b
-same_digit a b x y e = grind (arith, nat_tests)
+same_digit a b x y e = sym (at_place 16 a refl x) ∙ ap value e ∙ at_place 16 b refl y
 
 same_byte : (a b : ℕ) → a / 16 ≡ b / 16 → a % 16 ≡ b % 16 → a ≡ b
 same_byte a b x y = omega arith

@@ -1,5 +1,5 @@
 -- The lines of a valid message have texts that can be told apart.
-use Rattle.std.proofs.Common.{◌≡◌, ◌≢◌, ◌∙◌, ◌<◌, ◌/◌, ◌%◌, ◌^◌, ℕ, zero, suc, Bool, true, false, refl, sym, ap, ap₂, subst, List, [], ◌∷◌, ◌++◌, map, flat_map, length, take, drop, arith, codes, IsTrue}
+use Rattle.std.proofs.Common.{◌≡◌, ◌≢◌, ◌∙◌, ◌<◌, ◌/◌, ◌%◌, ◌^◌, ℕ, zero, suc, Bool, true, false, refl, sym, ap, ap₂, subst, List, [], ◌∷◌, ◌++◌, map, flat_map, length, take, drop, arith, codes, slice_index, IsTrue}
 use Rattle.std.proofs.lemmas.Bool.Decides.{nat_tests}
 use Rattle.std.proofs.lemmas.List.Elements.{All-head, All-tail, All-take, All-drop}
 use Rattle.std.proofs.lemmas.Str.Parse.{IsNumeralModel, numerals_by_value, tells_digits, digit_from_value}
@@ -62,7 +62,12 @@ decimal_avoids n fits = go (decimal n) (digits_decimal model n fits)
     go (d ∷ ds) all = let range = digit_from_value d all.0 in ((λ e. absurd (omega (arith, range.0, e))), go ds all.1)
 
 digit_avoids : (n : ℕ) → digit n ≢ 10
-digit_avoids n e = grind (arith, nat_tests)
+digit_avoids = in_table (codes "0123456789abcdef") (literal (codes "0123456789abcdef") refl)
+  where
+    in_table : (xs : List ℕ) → Avoids 10 xs → (n : ℕ) → slice_index xs n ≢ 10
+    in_table [] h n e = absurd (omega (arith, e))
+    in_table (x ∷ xs) h zero e = h.0 e
+    in_table (x ∷ xs) h (suc n) e = in_table xs h.1 n e
 
 hex_avoids : (bytes : List ℕ) → Avoids 10 (hex bytes)
 hex_avoids [] = tt

@@ -1,5 +1,5 @@
 -- The listing of a message: lines of text that say all of it (docs/FORMAT.md, "The listing").
-use Rattle.std.specs.Prelude.{ℕ, ◌+◌, ◌/◌, ◌%◌, ◌==◌, ◌&&◌, Bool, not, List, [], ◌∷◌, ◌++◌, map, flat_map, codes, nat_lt, nat_le, if◌then◌else◌}
+use Rattle.std.specs.Prelude.{ℕ, ◌/◌, ◌%◌, ◌==◌, ◌&&◌, Bool, not, List, [], ◌∷◌, ◌++◌, map, flat_map, codes, slice_index, nat_le, if◌then◌else◌}
 use Rattle.std.specs.List.{list_all}
 use Rattle.std.specs.Fmt.{decimal}
 use Rattle.bh_spec.specs.Messages.{Field, Interim, Start, request, response, Message}
@@ -7,7 +7,7 @@ use Rattle.bh_spec.specs.Canonical.{cut}
 
 -- a byte in two lower-case hexadecimal digits
 abbrev pub digit : ℕ → ℕ
-digit n = if nat_lt n 10 then 48 + n else 87 + n
+digit n = slice_index (codes "0123456789abcdef") n
 
 abbrev pub hex : List ℕ → List ℕ
 hex = flat_map (λ byte. digit (byte / 16) ∷ digit (byte % 16) ∷ [])
