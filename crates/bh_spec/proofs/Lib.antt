@@ -27,3 +27,6 @@ pub mod Runs
 pub mod Viable
 pub mod Answers
 pub mod Existing
+pub mod ListingTexts
+pub mod ListingLines
+pub mod Listings

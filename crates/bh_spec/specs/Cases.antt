@@ -9,6 +9,7 @@ use Rattle.bh_spec.specs.Bounds.{default_bounds}
 use Rattle.bh_spec.specs.Messages.{Message, Field, request, response}
 use Rattle.bh_spec.specs.Canonical.{canon, known}
 use Rattle.bh_spec.specs.Answers.{whole, refused, IsAnswer}
+use Rattle.bh_spec.specs.Listing.{show}
 
 -- a GET of https with these fields, for the path /
 abbrev pub get : List Field → Message
@@ -114,3 +115,27 @@ IntegerBoundaries = (int 63 ≡ 0x3f ∷ [])
     × (int 16384 ≡ 0x80 ∷ 0x00 ∷ 0x40 ∷ 0x00 ∷ [])
     × (int 1073741823 ≡ 0xbf ∷ 0xff ∷ 0xff ∷ 0xff ∷ [])
     × (int 1073741824 ≡ 0xc0 ∷ 0x00 ∷ 0x00 ∷ 0x00 ∷ 0x40 ∷ 0x00 ∷ 0x00 ∷ 0x00 ∷ [])
+
+-- text that ends with a line feed
+abbrev pub ended : List ℕ → List ℕ
+ended text = text ++ 10 ∷ []
+
+-- The listing of a request with content.
+abbrev pub RequestListed : Type 0
+RequestListed = show (record {
+  start = request (record { method = codes "POST"; scheme = codes "https"; authority = []; path = codes "/" });
+  fields = [];
+  content = codes "abc";
+  trailers = [];
+}) ≡ ended (codes "request") ++ ended (codes "method POST") ++ ended (codes "scheme https") ++ ended (codes "authority \"\"")
+    ++ ended (codes "path \"/\"") ++ ended (codes "content 616263") ++ ended (codes "end")
+
+-- The listing of a response behind an interim one, with a value that isn't text and one that is, and a trailer.
+abbrev pub ResponseListed : Type 0
+ResponseListed = show (record {
+  start = response (record { status = 103; fields = record { name = codes "a"; value = 0x80 ∷ 9 ∷ 0x80 ∷ [] } ∷ [] } ∷ []) 200;
+  fields = record { name = codes "b"; value = codes "c d" } ∷ [];
+  content = [];
+  trailers = record { name = codes "t"; value = codes "\"" } ∷ [];
+}) ≡ ended (codes "response") ++ ended (codes "interim 103") ++ ended (codes "field a hex:800980") ++ ended (codes "status 200")
+    ++ ended (codes "field b \"c d\"") ++ ended (codes "trailer t hex:22") ++ ended (codes "end")

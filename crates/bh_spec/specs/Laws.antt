@@ -9,6 +9,7 @@ use Rattle.bh_spec.specs.Texts.{Text}
 use Rattle.bh_spec.specs.Spelling.{Spells}
 use Rattle.bh_spec.specs.Viable.{SpellsBytes, IsViable, NextPart}
 use Rattle.bh_spec.specs.Canonical.{canon, known, Fits, integers, IsWritable}
+use Rattle.bh_spec.specs.Listing.{show}
 
 -- Bytes have one reading, whatever the limits.
 abbrev pub OneReading : Type 0
@@ -43,3 +44,7 @@ WithoutLimits = (L : Bounds) (m : Message) (o : Omitted) (z : ℕ) (t : Text) �
 -- Two messages have one canonical text only if they are one.
 abbrev pub CanonOnce : Type 0
 CanonOnce = (m n : Message) → IsValid m → Fits integers m → IsValid n → Fits integers n → canon m ≡ canon n → m ≡ n
+
+-- Two messages have one listing only if they are one: the listing hides nothing.
+abbrev pub OneListing : Type 0
+OneListing = (m n : Message) → IsValid m → IsValid n → show m ≡ show n → m ≡ n

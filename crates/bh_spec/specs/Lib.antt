@@ -23,3 +23,4 @@ pub mod Yields
 pub mod Readings
 pub mod Readers
 pub mod Runs
+pub mod Listing

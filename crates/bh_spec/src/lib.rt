@@ -1,10 +1,10 @@
 //! The binary format in definitions, and its laws.
 //!
 //! The definitions stand in `specs/`: `Integers`, `Bounds`, `Bytes`, `Messages`, `Texts`, `Sections`, `Tails`, `Spelling`,
-//! `Viable`, `Answers`, `Canonical`, `Reports` and `Parts`, which docs/FORMAT.md says in words; `Printed` has the words of kinds,
-//! omissions, parts and causes; `Alive` says which bytes may come next, `Pieces` and `Readings` what a reader of bytes in pieces
-//! answers, `Residuals`, `Yields`, `Items`, `Readers` and `Runs` what may still follow bytes that were read; `Laws` has the laws,
-//! and `Cases` the worked cases. The types here are those that the definitions speak of. Each function but theirs (`bytes`,
+//! `Viable`, `Answers`, `Canonical`, `Listing`, `Reports` and `Parts`, which docs/FORMAT.md says in words; `Printed` has the words
+//! of kinds, omissions, parts and causes; `Alive` says which bytes may come next, `Pieces` and `Readings` what a reader of bytes in
+//! pieces answers, `Residuals`, `Yields`, `Items`, `Readers` and `Runs` what may still follow bytes that were read; `Laws` has the
+//! laws, and `Cases` the worked cases. The types here are those that the definitions speak of. Each function but theirs (`bytes`,
 //! `number` and `text`) is empty: its contract is a law about the definitions, or a worked case.
 #![tactic(auto)]
 
@@ -12,9 +12,9 @@ ghost use Rattle.std.specs.Prelude.{◌≡◌, ◌≤◌, length};
 ghost use Rattle.bh_spec.specs.Integers.{byte_count};
 ghost use Rattle.bh_spec.specs.Parts.{number_of};
 ghost use Rattle.bh_spec.specs.Printed.{why_number, form_number, kind_text, omitted_text, part_text, why_text, form_text};
-ghost use Rattle.bh_spec.specs.Laws.{OneReading, OneNext, SomeNext, CanonIsSpelled, KnownIsSpelled, FitsWhereSpelled, WithoutLimits, CanonOnce};
+ghost use Rattle.bh_spec.specs.Laws.{OneReading, OneNext, SomeNext, CanonIsSpelled, KnownIsSpelled, FitsWhereSpelled, WithoutLimits, CanonOnce, OneListing};
 ghost use Rattle.bh_spec.specs.Alive.{AliveByInterval, FramingAlive, LineStep};
-ghost use Rattle.bh_spec.specs.Cases.{TailLeftOut, PaddingCounted, UpperCaseName, FramingInFourBytes, TrailersLeftOut, InterimResponse, PseudoField, InputTooLong, FramingTooGreat, HeaderSectionMissing, IntegerVectors, IntegerBoundaries};
+ghost use Rattle.bh_spec.specs.Cases.{TailLeftOut, PaddingCounted, UpperCaseName, FramingInFourBytes, TrailersLeftOut, InterimResponse, PseudoField, InputTooLong, FramingTooGreat, HeaderSectionMissing, RequestListed, ResponseListed, IntegerVectors, IntegerBoundaries};
 
 /// The width of an integer: 1, 2, 4 or 8 bytes (RFC 9000, section 16).
 #[derive(Clone, Copy, Debug, PartialEq, Eq)]
@@ -409,6 +409,11 @@ pub fn canon_once()
     ensures { CanonOnce }
 {}
 
+/// Different messages have different listings.
+pub fn one_listing()
+    ensures { OneListing }
+{}
+
 /// Some allowed number begins with some bytes exactly where one of the interval that they leave is allowed.
 pub fn alive_by_interval()
     ensures { AliveByInterval }
@@ -473,6 +478,16 @@ pub fn a_framing_number_over_255_is_dead()
 /// Worked case: the input ends before the header section.
 pub fn a_header_section_may_not_be_left_out()
     ensures { HeaderSectionMissing }
+{}
+
+/// Worked case: the listing of a request.
+pub fn a_request_is_listed()
+    ensures { RequestListed }
+{}
+
+/// Worked case: the listing of a response.
+pub fn a_response_is_listed()
+    ensures { ResponseListed }
 {}
 
 /// The vectors of RFC 9000, appendix A.1.
