@@ -1,0 +1,4 @@
+//! The rules of HTTP/1.1 heads: what a target says, which lines are a message's own, and how its body ends.
+#![tactic(auto)]
+
+mod lines;
