@@ -1,5 +1,5 @@
 -- The values of the lines of one name, line by line.
-use Rattle.std.proofs.Common.{◌≡◌, ◌+◌, ℕ, suc, zero, Bool, cond, List, [], ◌∷◌, map, filter, drop, Option, Some, None, slice_get, bytes_eq, true, false, refl, sym, ap, ◌∙◌, add-one}
+use Rattle.std.proofs.Common.{◌≡◌, ◌+◌, ℕ, suc, zero, List, [], ◌∷◌, map, drop, Some, slice_get, bytes_eq, true, false, ap, ◌∙◌, add-one}
 use Rattle.std.proofs.lemmas.Bool.{cond-true, cond-false}
 use Rattle.bh_spec.specs.Messages.{Field}
 use Rattle.h1_spec.specs.Cleaning.{values_of}

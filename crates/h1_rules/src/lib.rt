@@ -1,4 +1,8 @@
 //! The rules of HTTP/1.1 heads: what a target says, which lines are a message's own, and how its body ends.
 #![tactic(auto)]
 
+mod framing;
 mod lines;
+
+pub use framing::framing_of;
+pub use h1_head::Framing1;

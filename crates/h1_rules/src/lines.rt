@@ -23,6 +23,7 @@ pub fn value_from<'a>(fields: &'a Fields, name: &[u8], from: usize) -> Option<(&
 }
 
 /// The lines of a name: none, one with this value, or several.
+#[derive(Clone, Copy)]
 pub enum Only<'a> {
     Missing,
     One(&'a [u8]),
