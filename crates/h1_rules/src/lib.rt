@@ -2,7 +2,9 @@
 #![tactic(auto)]
 
 mod framing;
+mod hops;
 mod lines;
 
 pub use framing::framing_of;
 pub use h1_head::Framing1;
+pub use hops::{Hops, hops_of};
