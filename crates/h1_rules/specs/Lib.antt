@@ -1,0 +1,3 @@
+pub mod Values
+pub mod Framed
+pub mod Hopping

@@ -1,0 +1,10 @@
+//! The rules of HTTP/1.1 heads: what a target says, which lines are a message's own, and how its body ends.
+#![tactic(auto)]
+
+mod framing;
+mod hops;
+mod lines;
+
+pub use framing::framing_of;
+pub use h1_head::Framing1;
+pub use hops::{Hops, hops_of};
