@@ -30,7 +30,7 @@ module _ (L : Bounds) (limits : AreLimits L) (v : Counted) (start : IsStart L v)
   at_start q t h =
       subst (λ (d : DecoderView). rest_at d.limits d.at q t) (sym start.decoder) (start_is.back L q t h)
 
-  from_start : (q : List Item) (t : Text) → rest v q t → MessageOf L q t
+  pub from_start : (q : List Item) (t : Text) → rest v q t → MessageOf L q t
   from_start q t h = start_is.forth L q t (subst (λ (d : DecoderView). rest_at d.limits d.at q t) start.decoder h)
 
   input_is : v.held.decoder.limits.input ≡ Some limits.input
