@@ -1,3 +1,4 @@
 pub mod Values
 pub mod Digits
 pub mod HopLemmas
+pub mod TargetLemmas

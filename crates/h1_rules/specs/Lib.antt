@@ -1,3 +1,4 @@
 pub mod Values
 pub mod Framed
 pub mod Hopping
+pub mod Targeted

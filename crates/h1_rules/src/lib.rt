@@ -4,7 +4,10 @@
 mod framing;
 mod hops;
 mod lines;
+mod targets;
 
 pub use framing::framing_of;
 pub use h1_head::Framing1;
+pub use h1_spec::Scheme1;
 pub use hops::{Hops, hops_of};
+pub use targets::{TargetWhy, target_of};
