@@ -2,3 +2,5 @@ pub mod Values
 pub mod Digits
 pub mod HopLemmas
 pub mod TargetLemmas
+pub mod Cookies
+pub mod Adding

@@ -2,3 +2,4 @@ pub mod Values
 pub mod Framed
 pub mod Hopping
 pub mod Targeted
+pub mod Own
