@@ -86,8 +86,7 @@ framed_of L m o z t h (response interims status) e =
           interims = interims;
           status = status;
           each = valid.each;
-          low = valid.low;
-          high = valid.high;
+          final = valid.final;
           few = subst (IsWithin L.interims) (sym (zero-add (length interims))) start.0;
           spelled = (
             start.1.0,
@@ -130,7 +129,7 @@ framed_message L t ((Response, form), h) =
       rest.omitted,
       rest.padding,
       record {
-        valid = record { start = record { each = r.each; low = r.low; high = r.high }; fields = f.2.1; content = rest.bytes; trailers = rest.valid };
+        valid = record { start = record { each = r.each; final = r.final }; fields = f.2.1; content = rest.bytes; trailers = rest.valid };
         form = form;
         text = (
           h.0,
@@ -181,8 +180,8 @@ one_more L form k t h = by_list h.interims h.each h.few h.spelled
       (
         s.3.0,
         s.3.1,
-        record { valid = record { low = omega (arith, h.low); high = h.high; interim = λ e. h.low }; spelled = s.3.2 },
-        inr (h.low, s.3.3),
+        record { valid = record { low = omega (arith, h.final.low); high = h.final.high; interim = λ e. h.final.low }; spelled = s.3.2 },
+        inr (h.final.low, s.3.3),
         s.4 ∙ ap (λ (x : Text). x ++ s.1) s.2 ∙ s.3.4,
       ),
     )
@@ -195,8 +194,7 @@ one_more L form k t h = by_list h.interims h.each h.few h.spelled
           interims = more;
           status = h.status;
           each = All-tail IsInterim i more each;
-          low = h.low;
-          high = h.high;
+          final = h.final;
           few = subst (IsWithin L.interims) long few;
           spelled = (a.1, s.1, a.3, s.3, refl);
         } in
@@ -209,13 +207,13 @@ one_more L form k t h = by_list h.interims h.each h.few h.spelled
             b.1 ++ (a.1 ++ s.1),
             record {
               valid = record {
-                low = v.low;
-                high = omega (arith, v.high);
+                low = v.number.low;
+                high = omega (arith, v.number.high);
                 interim = λ e. absurd (few_left L.interims (length (i ∷ more)) (omega arith) few e);
               };
               spelled = b.2;
             },
-            inl (omega (arith, v.high), (i.fields, (b.1, a.1 ++ s.1, (b.3, v.fields), rest, refl))),
+            inl (omega (arith, v.number.high), (i.fields, (b.1, a.1 ++ s.1, (b.3, v.fields), rest, refl))),
             joined,
           ),
         )
@@ -227,22 +225,20 @@ one_before L form k within t (status, (x, y, st, inr final, e)) =
       interims = [];
       status = status;
       each = All-nil IsInterim;
-      low = final.0;
-      high = st.valid.high;
+      final = record { low = final.0; high = st.valid.high };
       few = subst (IsWithin L.interims) none within;
       spelled = ([], x ++ y, refl, (x, y, st.spelled, final.1, refl), e);
     }
 one_before L form k within t (status, (x, y, st, inl (small, (fields, (u, v, headers, rest, f))), e)) =
     let i : Interim = record { status = status; fields = fields } in
-    let valid : IsInterim i = record { low = st.valid.low; high = omega arith; fields = headers.1 } in
+    let valid : IsInterim i = record { number = record { low = st.valid.low; high = omega arith }; fields = headers.1 } in
     let s = rest.spelled in
     let long : suc k + length rest.interims ≡ k + length (i ∷ rest.interims) = omega arith in
     record {
       interims = i ∷ rest.interims;
       status = rest.status;
       each = All-cons IsInterim i rest.interims valid rest.each;
-      low = rest.low;
-      high = rest.high;
+      final = rest.final;
       few = subst (IsWithin L.interims) long rest.few;
       spelled = (
         (x ++ u) ++ s.0,

@@ -39,9 +39,9 @@ longer_whole L bytes most s limit more h =
 longer_refused : (L : Bounds) (bytes : List ℕ) (most : ℕ) (refusal : Refusal) → L.input ≡ Some most → most < length bytes → IsAnswer L (take most bytes) (refused refusal)
     → IsAnswer L bytes (refused (past_limit most refusal))
 longer_refused L bytes most (Dead at part) limit more h =
-    (first_refused_byte L (take most bytes) bytes at part (omega (arith, h.0.inside, length-take most bytes, more)) (take_take (at + 1) most bytes (omega (arith, h.0.inside, length-take most bytes, more)))).0 h
+    (first_refused_byte L (take most bytes) bytes at part (omega (arith, h.0.first.inside, length-take most bytes, more)) (take_take (at + 1) most bytes (omega (arith, h.0.first.inside, length-take most bytes, more)))).0 h
 longer_refused L bytes most (Limit at part) limit more h =
-    (first_refused_byte L (take most bytes) bytes at part (omega (arith, h.0.inside, length-take most bytes, more)) (take_take (at + 1) most bytes (omega (arith, h.0.inside, length-take most bytes, more)))).1 h
+    (first_refused_byte L (take most bytes) bytes at part (omega (arith, h.0.first.inside, length-take most bytes, more)) (take_take (at + 1) most bytes (omega (arith, h.0.first.inside, length-take most bytes, more)))).1 h
 longer_refused L bytes most (Ended at part) limit more h = too_long L bytes most limit more h.viable
 longer_refused L bytes most (TooLong at) limit more h = absurd (omega (arith, h.more, length-take most bytes, more, same L.input limit h.limit))
   where

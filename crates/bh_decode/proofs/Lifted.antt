@@ -27,11 +27,12 @@ front_more done piece k = let e : length done + k + 1 ≡ length done + (k + 1) 
 refused_in : (L : Bounds) (R : Text → Type 0) (done piece : List ℕ) (k n : ℕ) (part : Part) → Context (IsMessageText L) R done n → IsRefused R [] piece k part
     → IsWithin L.input (length done + k + 1) → IsRefusedAt L (done ++ piece) (length done + k) part
 refused_in L R done piece k n part c h seen = record {
-  inside = omega (arith, length-append done piece, h.inside);
   seen = seen;
-  before = subst (IsViable L) (sym (front done piece k)) (c.into (take k piece) (next_becomes R (take k piece) part h.next));
-  after = λ v. h.after (c.out (take (k + 1) piece) (subst (IsViable L) (front_more done piece k) v));
-  next = subst (λ (x : List ℕ). NextPart L x part) (sym (front done piece k)) (c.next (take k piece) part h.next);
+  first = record {
+    inside = omega (arith, length-append done piece, h.inside);
+    next = subst (λ (x : List ℕ). NextPart L x part) (sym (front done piece k)) (c.next (take k piece) part h.next);
+    after = λ v. h.after (c.out (take (k + 1) piece) (subst (IsViable L) (front_more done piece k) v));
+  };
 }
 
 pub dead_in : (L : Bounds) (R S : Text → Type 0) (done piece : List ℕ) (k m n : ℕ) (part : Part) → Context (IsMessageText L) R done m → Context (IsMessageText no_bounds) S done n → IsDead R S [] piece k part

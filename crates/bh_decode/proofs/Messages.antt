@@ -86,7 +86,7 @@ response_whole L form interims status fields content trailers m omitted padding 
     (record {
       text = h.text;
       spelled = record {
-        valid = record { start = record { each = o.each; low = o.low; high = o.high }; fields = h.spelled.3.valid; content = s.3.bytes; trailers = s.3.valid };
+        valid = record { start = record { each = o.each; final = o.final }; fields = h.spelled.3.valid; content = s.3.bytes; trailers = s.3.valid };
         kind_is = refl;
         spelled = (h.spelled.0, h.spelled.1, (o.few, o.spelled), (s.0, s.1, s.2, s.3.spelled, s.4), h.spelled.4);
       };

@@ -128,7 +128,7 @@ opened_more L form interims i bytes taken n k h =
     record {
       within = omega (arith, k.within, s.within, length-drop taken bytes);
       few = subst (IsWithin L.interims) count next;
-      each = subst (All IsInterim) (sym pushed) (All-push IsInterim (map interim_of interims) (interim_of i) k.each (record { low = status.valid.low; high = omega (arith, h.0); fields = s.whole.spelled.3.1 }));
+      each = subst (All IsInterim) (sym pushed) (All-push IsInterim (map interim_of interims) (interim_of i) k.each (record { number = record { low = status.valid.low; high = omega (arith, h.0) }; fields = s.whole.spelled.3.1 }));
       ended = All-push (λ (j : held.Interim). IsEnded j.fields) interims i k.ended h.1;
       text = k.text ++ s.whole.text;
       spelled = subst (λ (is : List Interim). AreEach (IsInterimText L form) is (k.text ++ s.whole.text)) (sym pushed)
@@ -153,8 +153,7 @@ opening_whole L form interims status bytes taken n k h = record {
     spelled = record {
       each = k.each;
       few = subst (IsWithin L.interims) (sym (length-map interims interim_of)) k.few;
-      low = h.0;
-      high = h.1.whole.spelled.valid.high;
+      final = record { low = h.0; high = h.1.whole.spelled.valid.high };
       spelled = (k.text, h.1.whole.text, k.spelled, h.1.whole.spelled.spelled, refl);
     };
     same = bytes_of-append k.text h.1.whole.text ∙ ap₂ (λ (x y : List ℕ). x ++ y) k.same h.1.whole.same ∙ sym (split_more bytes taken n k.within);

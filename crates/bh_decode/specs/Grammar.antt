@@ -8,7 +8,7 @@ use Rattle.bh_spec.specs.declared.Kind.{Kind}
 use Rattle.bh_spec.specs.declared.Kind.TheVariants.{Request, Response}
 use Rattle.bh_spec.specs.declared.Omitted.{Omitted}
 use Rattle.bh_spec.specs.Bounds.{Bounds, IsWithin}
-use Rattle.bh_spec.specs.Messages.{Field, Control, Interim, Message, AreHeaders, AreTrailers, IsInterim, IsValid, kind_of}
+use Rattle.bh_spec.specs.Messages.{Field, Control, Interim, Message, AreHeaders, AreTrailers, IsInterim, IsFinalStatus, IsValid, kind_of}
 use Rattle.bh_spec.specs.Texts.{Text, IsNumber, IsRun, ◌then◌, AreEach, IsString}
 use Rattle.bh_spec.specs.Sections.{IsSection}
 use Rattle.bh_spec.specs.Tails.{IsBody, IsTail}
@@ -36,8 +36,7 @@ pub record IsResponseText (L : Bounds) (form : Form) (before : ℕ) (t : Text) :
   pub interims : List Interim
   pub status : ℕ
   pub each : All IsInterim interims
-  pub low : 200 ≤ status
-  pub high : status ≤ 599
+  pub final : IsFinalStatus status
   pub few : IsWithin L.interims (before + length interims)
   pub spelled : (AreEach (IsInterimText L form) interims then (IsNumber parts.Status status then IsAfterStart L form)) t
 

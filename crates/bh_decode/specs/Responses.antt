@@ -3,7 +3,7 @@ use Rattle.std.specs.Prelude.{ℕ, ◌≡◌, ◌<◌, ◌≤◌, List, [], leng
 use Rattle.bh_spec.specs.declared.Form.{Form}
 use Rattle.bh_spec.specs.declared.Part.TheVariants as parts
 use Rattle.bh_spec.specs.Bounds.{Bounds, IsWithin}
-use Rattle.bh_spec.specs.Messages.{Interim, IsInterim}
+use Rattle.bh_spec.specs.Messages.{Interim, IsInterim, IsFinalStatus}
 use Rattle.bh_spec.specs.Texts.{Text, IsNumber, ◌then◌, AreEach}
 use Rattle.bh_spec.specs.Spelling.{IsInterimText}
 use Rattle.bh_model.specs.declared.field.Place.TheVariants.{Header}
@@ -25,6 +25,5 @@ ResponsePartIs L form before bytes (found.Final status taken) = (200 ≤ status)
 pub record OpeningOf (L : Bounds) (form : Form) (interims : List Interim) (status : ℕ) (t : Text) : Type 0 where
   pub each : All IsInterim interims
   pub few : IsWithin L.interims (length interims)
-  pub low : 200 ≤ status
-  pub high : status ≤ 599
+  pub final : IsFinalStatus status
   pub spelled : (AreEach (IsInterimText L form) interims then IsNumber parts.Status status) t

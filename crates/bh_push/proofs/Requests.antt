@@ -147,8 +147,7 @@ response_some L form before few =
         more = a.0;
         spelled = record {
           each = All-nil IsInterim;
-          low = omega arith;
-          high = omega arith;
+          final = record { low = omega arith; high = omega arith };
           few = subst (IsWithin L.interims) (let e : before ≡ before + 0 = omega arith in e) few;
           spelled = ([], number, refl, record { width = Two; fits = omega arith; spelled = refl }, refl);
         };

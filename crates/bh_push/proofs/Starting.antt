@@ -51,7 +51,7 @@ framed_to L form (response interims status) fields content trailers o z t valid 
   text = h.0;
   rest = h.1;
   more = head (of_response status) fields ∷ tail_items content trailers o z;
-  spelled = record { each = valid.start.each; low = valid.start.low; high = valid.start.high; few = subst (IsWithin L.interims) (sym (none_before (length interims))) h.2.0; spelled = h.2.1 };
+  spelled = record { each = valid.start.each; final = valid.start.final; few = subst (IsWithin L.interims) (sym (none_before (length interims))) h.2.0; spelled = h.2.1 };
   behind = after_to L form (of_response status) (record { start = response interims status; fields = fields; content = content; trailers = trailers }) o z h.1 valid h.3;
   items = append_assoc (map interim_item interims) (head (of_response status) fields ∷ []) (tail_items content trailers o z);
   joined = h.4;
@@ -100,7 +100,7 @@ message_from L q t y = at y.thing y.spelled y.behind y.items
         let o = c.spelled in
         let a = c.behind in
         let tail = tail_from L form a.more a.rest a.behind in
-        message_of L form (response c.thing.0 c.thing.1) a.thing q a.more t y.text a.rest tail (record { each = o.each; low = o.low; high = o.high }) a.spelled.1
+        message_of L form (response c.thing.0 c.thing.1) a.thing q a.more t y.text a.rest tail (record { each = o.each; final = o.final }) a.spelled.1
         (e ∙ c.items ∙ ap (λ (p : List Item). map interim_item c.thing.0 ++ p) a.items
         ∙ sym (append_assoc (map interim_item c.thing.0) (head (of_response c.thing.1) a.thing ∷ []) a.more))
         (y.text, y.rest, number, (c.text, c.rest, (subst (IsWithin L.interims) (none_before (length c.thing.0)) o.few, o.spelled), (a.text, a.rest, a.spelled.0, tail.spelled, a.joined), c.joined), y.joined)

@@ -6,7 +6,7 @@ use Rattle.bh_spec.specs.declared.Kind.{Kind}
 use Rattle.bh_spec.specs.declared.Part.TheVariants as parts
 use Rattle.bh_spec.specs.Integers.{vi, byte_count}
 use Rattle.bh_spec.specs.Bounds.{Bounds, IsWithin}
-use Rattle.bh_spec.specs.Messages.{Interim, IsInterim}
+use Rattle.bh_spec.specs.Messages.{Interim, IsInterim, IsInterimStatus, IsFinalStatus}
 use Rattle.bh_spec.specs.Spelling.{framing}
 use Rattle.bh_spec.specs.Texts.{Text, mark, IsNumber}
 use Rattle.bh_spec.proofs.Within.{within_less}
@@ -45,14 +45,6 @@ framing_from L q t h = record {
 
 -- ---- a status
 
-pub record IsInterimStatus (n : ℕ) : Type 0 where
-  pub low : 100 ≤ n
-  pub high : n ≤ 199
-
-pub record IsFinalStatus (n : ℕ) : Type 0 where
-  pub low : 200 ≤ n
-  pub high : n ≤ 599
-
 -- behind a status, with so many interim responses before it
 abbrev pub AfterStatus : Bounds → Form → ℕ → List Item → ℕ → ℕ → Text → Type 0
 AfterStatus L form before q n width t = (IsInterimStatus n × IsWithin L.interims (before + 1) × InterimRest L form before n (SectionOf L form Header) q t)
@@ -69,7 +61,7 @@ opening_to L form before [] status q more t text rest o behind items joined =
       behind = rest;
       fits = s.3.fits;
       spelled = joined ∙ ap (λ (x : Text). x ++ rest) (s.4 ∙ ap (λ (x : Text). x ++ s.1) s.2 ∙ s.3.spelled);
-      body = inr (record { low = o.low; high = o.high }, subst (λ (p : List Item). AfterStart L form (of_response status) p rest) (sym items) behind);
+      body = inr (o.final, subst (λ (p : List Item). AfterStart L form (of_response status) p rest) (sym items) behind);
     }
 opening_to L form before (interim ∷ interims) status q more t text rest o behind items joined =
     let s = o.spelled in
@@ -86,7 +78,7 @@ opening_to L form before (interim ∷ interims) status q more t text rest o behi
       spelled = joined ∙ ap (λ (x : Text). x ++ rest) (s.4 ∙ ap (λ (x : Text). x ++ s.1) (each.4 ∙ ap (λ (x : Text). x ++ each.1) (first.4 ∙ ap (λ (x : Text). x ++ first.1) first.2.spelled))
           ∙ append_assoc (number ++ first.1) each.1 s.1) ∙ append_assoc (number ++ first.1) (each.1 ++ s.1) rest ∙ append_assoc number first.1 later;
       body = inl (
-        record { low = is.low; high = is.high },
+        is.number,
         within_less L.interims (before + 1) (before + length (interim ∷ interims)) (omega arith) o.few,
         record {
           thing = interim.fields;
@@ -101,8 +93,7 @@ opening_to L form before (interim ∷ interims) status q more t text rest o behi
             more = more;
             spelled = record {
               each = All-tail IsInterim interim interims o.each;
-              low = o.low;
-              high = o.high;
+              final = o.final;
               few = subst (IsWithin L.interims) (let e : before + length (interim ∷ interims) ≡ before + 1 + length interims = omega arith in e) o.few;
               spelled = (each.1, s.1, each.3, s.3, refl);
             };
@@ -137,8 +128,7 @@ status_from L form before q t h few = at h.body
       more = q;
       spelled = record {
         each = All-nil IsInterim;
-        low = f.0.low;
-        high = f.0.high;
+        final = f.0;
         few = subst (IsWithin L.interims) (let e : before ≡ before + 0 = omega arith in e) few;
         spelled = ([], number, refl, is_number, refl);
       };
@@ -159,9 +149,8 @@ status_from L form before q t h few = at h.body
           rest = z.rest;
           more = z.more;
           spelled = record {
-            each = All-cons IsInterim interim z.thing.0 (record { low = i.0.low; high = i.0.high; fields = y.spelled.1 }) o.each;
-            low = o.low;
-            high = o.high;
+            each = All-cons IsInterim interim z.thing.0 (record { number = i.0; fields = y.spelled.1 }) o.each;
+            final = o.final;
             few = subst (IsWithin L.interims) (let e : before + 1 + length z.thing.0 ≡ before + length (interim ∷ z.thing.0) = omega arith in e) o.few;
             spelled = (
               first ++ s.0,

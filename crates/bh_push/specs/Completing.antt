@@ -10,7 +10,7 @@ use Rattle.bh_spec.specs.declared.Kind.TheVariants.{Request, Response}
 use Rattle.bh_spec.specs.declared.Omitted.TheVariants.{Nothing, Trailers, Both}
 use Rattle.bh_spec.specs.Bounds.{Bounds, IsWithin}
 use Rattle.bh_spec.specs.Bytes.{AreBytes}
-use Rattle.bh_spec.specs.Messages.{Field, Control, Interim, IsInterim}
+use Rattle.bh_spec.specs.Messages.{Field, Control, Interim, IsInterim, IsFinalStatus}
 use Rattle.bh_spec.specs.Texts.{Text, IsNumber, IsRun, ◌then◌, AreEach, IsString}
 use Rattle.bh_spec.specs.Spelling.{IsInterimText, framing}
 use Rattle.bh_model.specs.declared.field.Place.TheVariants.{Header, Trailer}
@@ -77,8 +77,7 @@ AfterStart L form of = HeaderRest L form of (SectionOf L form Header)
 -- behind so many interim responses: more of them, and the status
 pub record Opening (L : Bounds) (form : Form) (before : ℕ) (found : List Interim × ℕ) (t : Text) : Type 0 where
   pub each : All IsInterim found.0
-  pub low : 200 ≤ found.1
-  pub high : found.1 ≤ 599
+  pub final : IsFinalStatus found.1
   pub few : IsWithin L.interims (before + length found.0)
   pub spelled : (AreEach (IsInterimText L form) found.0 then IsNumber parts.Status found.1) t
 

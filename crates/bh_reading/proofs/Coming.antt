@@ -30,7 +30,7 @@ responses_come L begun (i ∷ interims) status fields q valid fit low high heade
 
 start_comes : (L : Bounds) (a : Start) (fields : List Field) (q : List Item) → IsStart a → StartFits L a → AreHeaders fields → FieldsFit L fields → TailComes L q → MessageComes L false (start_items a fields ++ q)
 start_comes L (request control) fields q valid fit headers fits h = (record { start = (valid, fit); first = λ c e. refl; valid = headers; fits = fits }, h)
-start_comes L (response interims status) fields q valid fit headers fits h = responses_come L false interims status fields q valid.each fit.1 valid.low valid.high headers fits h
+start_comes L (response interims status) fields q valid fit headers fits h = responses_come L false interims status fields q valid.each fit.1 valid.final.low valid.final.high headers fits h
 
 pub message_comes : (L : Bounds) (q : List Item) (t : Text) → MessageOf L q t → MessageComes L false q
 message_comes L q t h =

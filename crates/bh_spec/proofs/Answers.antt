@@ -5,7 +5,6 @@ use Rattle.bh_spec.specs.declared.Omitted.{Omitted}
 use Rattle.bh_spec.specs.declared.Refusal.TheVariants.{Dead, Limit, Ended, TooLong}
 use Rattle.bh_spec.specs.Bounds.{Bounds, IsWithin, no_bounds}
 use Rattle.bh_spec.specs.Messages.{Message}
-use Rattle.bh_spec.specs.Pieces.{IsRefused}
 use Rattle.bh_spec.specs.Viable.{SpellsBytes, IsViable, NextPart, IsMessageText}
 use Rattle.bh_spec.specs.Answers.{Answer, whole, refused, IsRefusedAt, HasEnded, IsTooLong, IsAnswer}
 use Rattle.bh_spec.proofs.Pieces.{refused_refused}
@@ -15,25 +14,21 @@ use Rattle.bh_spec.proofs.Viable.{viable_less, viable_take}
 pub spelled_viable : (L : Bounds) (m : Message) (o : Omitted) (z : ℕ) (bytes : List ℕ) → SpellsBytes L m o z bytes → IsViable L bytes
 spelled_viable L m o z bytes h = record { text = h.text; after = []; spelled = (m, o, z, h.spelled); begins = h.same ∙ sym (append-nil bytes) }
 
--- an input is one piece, with nothing before it
-as_piece : (L : Bounds) (bytes : List ℕ) (at : ℕ) (part : Part) → IsRefusedAt L bytes at part → IsRefused (IsMessageText L) [] bytes at part
-as_piece L bytes at part h = record { inside = h.inside; next = h.next; after = h.after }
-
 -- a refused byte is the first, so there is one
 same_place : (L : Bounds) (bytes : List ℕ) (i j : ℕ) (p q : Part) → IsRefusedAt L bytes i p → IsRefusedAt L bytes j q → (i ≡ j) × (p ≡ q)
 same_place L bytes i j p q a b =
-    let same : i ≡ j = refused_refused (IsMessageText L) [] bytes i j p q (as_piece L bytes i p a) (as_piece L bytes j q b) in
-    (same, one_next L L (take i bytes) p q a.next (subst (λ (k : ℕ). NextPart L (take k bytes) q) (sym same) b.next))
+    let same : i ≡ j = refused_refused (IsMessageText L) [] bytes i j p q a.first b.first in
+    (same, one_next L L (take i bytes) p q a.first.next (subst (λ (k : ℕ). NextPart L (take k bytes) q) (sym same) b.first.next))
 
 -- where all bytes are viable, none is refused
 none_refused : (L : Bounds) (bytes : List ℕ) (i : ℕ) (p : Part) → IsViable L bytes → IsRefusedAt L bytes i p → ⊥
-none_refused L bytes i p v a = a.after (viable_take L (i + 1) bytes v)
+none_refused L bytes i p v a = a.first.after (viable_take L (i + 1) bytes v)
 
 -- and where those within the limit of the input are, none of them
 none_seen : (L : Bounds) (bytes : List ℕ) (i at : ℕ) (p : Part) → IsTooLong L bytes at → IsRefusedAt L bytes i p → ⊥
 none_seen L bytes i at p t a =
     let seen : i + 1 ≤ at = subst (λ (o : Option ℕ). IsWithin o (i + 1)) t.limit a.seen in
-    a.after (viable_less L (i + 1) at bytes seen t.viable)
+    a.first.after (viable_less L (i + 1) at bytes seen t.viable)
 
 not_within : (L : Bounds) (bytes : List ℕ) (at : ℕ) → IsTooLong L bytes at → IsWithin L.input (length bytes) → ⊥
 not_within L bytes at t h =
@@ -93,9 +88,10 @@ pub refused_there : (L : Bounds) (bytes others : List ℕ) (at : ℕ) (part : Pa
 refused_there L bytes others at part long same h =
     let before : take at others ≡ take at bytes = shorter at others bytes same in
     record {
-      inside = long;
       seen = h.seen;
-      before = subst (IsViable L) (sym before) h.before;
-      after = λ v. h.after (subst (IsViable L) same v);
-      next = subst (λ (x : List ℕ). NextPart L x part) (sym before) h.next;
+      first = record {
+        inside = long;
+        next = subst (λ (x : List ℕ). NextPart L x part) (sym before) h.first.next;
+        after = λ v. h.first.after (subst (IsViable L) same v);
+      };
     }

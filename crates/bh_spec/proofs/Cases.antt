@@ -186,7 +186,7 @@ framing_in_four_bytes = (
     record {
       text = _;
       spelled = record {
-        valid = record { start = record { each = All-nil IsInterim; low = omega arith; high = omega arith }; fields = no_headers; content = All-nil _; trailers = All-nil IsRegularField };
+        valid = record { start = record { each = All-nil IsInterim; final = record { low = omega arith; high = omega arith } }; fields = no_headers; content = All-nil _; trailers = All-nil IsRegularField };
         form = Known;
         text = (
           _,
@@ -214,9 +214,8 @@ interim_response = (
       spelled = record {
         valid = record {
           start = record {
-            each = All-cons IsInterim _ [] (record { low = omega arith; high = omega arith; fields = no_headers }) (All-nil IsInterim);
-            low = omega arith;
-            high = omega arith;
+            each = All-cons IsInterim _ [] (record { number = record { low = omega arith; high = omega arith }; fields = no_headers }) (All-nil IsInterim);
+            final = record { low = omega arith; high = omega arith };
           };
           fields = no_headers;
           content = All-nil _;

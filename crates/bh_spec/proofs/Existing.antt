@@ -33,7 +33,7 @@ plain_fits L = record { start = (zero_within L.interims, All-nil (λ i. FieldsFi
 
 plain_valid : IsValid plain
 plain_valid = record {
-  start = record { each = All-nil IsInterim; low = omega arith; high = omega arith };
+  start = record { each = All-nil IsInterim; final = record { low = omega arith; high = omega arith } };
   fields = no_headers;
   content = All-nil (λ n. n < 256);
   trailers = All-nil IsRegularField;
@@ -49,7 +49,7 @@ nothing_viable L bytes =
 step : (L : Bounds) (bytes : List ℕ) (k : ℕ) → ((a : Answer) → IsAnswer L bytes a → ⊥) → k < length bytes → IsWithin L.input (k + 1) → IsViable L (take k bytes) → (IsViable L (take (k + 1) bytes) → ⊥) → ⊥
 step L bytes k none inside seen viable dead =
     let next = some_next L (take k bytes) viable in
-    let at : IsRefusedAt L bytes k next.0 = record { inside = inside; seen = seen; before = viable; after = dead; next = next.1 } in
+    let at : IsRefusedAt L bytes k next.0 = record { seen = seen; first = record { inside = inside; next = next.1; after = dead } } in
     none (refused (Dead k next.0)) (at, λ free. none (refused (Limit k next.0)) (at, free))
 
 reach : (L : Bounds) (bytes : List ℕ) → ((a : Answer) → IsAnswer L bytes a → ⊥) → (k : ℕ) → k ≤ length bytes → IsWithin L.input k → (IsViable L (take k bytes) → ⊥) → ⊥

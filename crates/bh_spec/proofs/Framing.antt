@@ -81,7 +81,7 @@ ok_fits : (L : Bounds) → Fits L ok
 ok_fits L = record { start = (zero_within L.interims, All-nil _); fields = no_fields L; trailers = no_fields L }
 
 ok_valid : IsValid ok
-ok_valid = record { start = record { each = All-nil IsInterim; low = omega arith; high = omega arith }; fields = no_headers; content = All-nil _; trailers = All-nil IsRegularField }
+ok_valid = record { start = record { each = All-nil IsInterim; final = record { low = omega arith; high = omega arith } }; fields = no_headers; content = All-nil _; trailers = All-nil IsRegularField }
 
 abbrev After : Bounds → Form → Message → Text → Type 0
 After L form m t = (IsStartText L form m.start then IsSection L form m.fields then IsTail L form m.content m.trailers Nothing 0) t
@@ -183,14 +183,6 @@ dead_number h = not_alive ((alive_by_interval zero_to_three 0x41 [] (All-cons (�
 dead_first : (L : Bounds) → IsViable L (0x41 ∷ []) → ⊥
 dead_first L v = dead_number (begins_if L 0x41 [] (omega arith) v)
 
-nothing_viable : IsViable default_bounds []
-nothing_viable = record {
-  text = get_text;
-  after = _;
-  spelled = (get [], Both, 0, get_spelled);
-  begins = refl;
-}
-
 record Opens (t : Text) : Type 0 where
   byte : ℕ
   more : Text
@@ -220,6 +212,6 @@ nothing_next = first_part default_bounds (get []) Both 0 get_text get_spelled
 
 pub framing_too_great : FramingTooGreat
 framing_too_great = (
-  record { inside = omega arith; seen = omega arith; before = nothing_viable; after = dead_first default_bounds; next = nothing_next },
+  record { seen = omega arith; first = record { inside = omega arith; next = nothing_next; after = dead_first default_bounds } },
   dead_first no_bounds,
 )

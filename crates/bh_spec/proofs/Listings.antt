@@ -151,7 +151,7 @@ cut_fine (suc turns) (b ∷ rest) all =
 
 interim_fine : (i : Interim) → IsInterim i → AreFine (interim_lines i)
 interim_fine i h =
-    let high = h.high in
+    let high = h.number.high in
     let fits : i.status < 2 ^ 64 = omega arith in
     ((fits, both (codes "interim ") (decimal i.status) (literal (codes "interim ") refl) (decimal_avoids i.status fits)), fields_fine i.fields (headers_named i.fields h.fields))
 
@@ -177,7 +177,7 @@ start_fine (request c) h = (
   ),
 )
 start_fine (response is n) h =
-    let high = h.high in
+    let high = h.final.high in
     let fits : n < 2 ^ 64 = omega arith in (
       (tt, literal (codes "response") refl),
       onto (flat_map interim_lines is) (status n ∷ []) (interims_fine is h.each)

@@ -131,11 +131,12 @@ refused_at L done piece after offset part within h =
     ap (λ (k : ℕ). take k (done ++ (piece ++ after))) (let e : length done + offset + 1 ≡ length done + (offset + 1) = omega arith in e)
     ∙ front_taken done piece after (offset + 1) (omega (arith, h.inside)) in
     record {
-      inside = omega (arith, h.inside, length-append done (piece ++ after), length-append piece after);
       seen = within;
-      before = subst (IsViable L) (sym at) (to_viable L (done ++ take offset piece) (next_becomes (SomeOf (MessageOf L)) (done ++ take offset piece) part h.next));
-      after = λ v. h.after (of_viable L (done ++ take (offset + 1) piece) (subst (IsViable L) on v));
-      next = subst (λ (x : List ℕ). NextPart L x part) (sym at) (to_next L (done ++ take offset piece) part h.next);
+      first = record {
+        inside = omega (arith, h.inside, length-append done (piece ++ after), length-append piece after);
+        next = subst (λ (x : List ℕ). NextPart L x part) (sym at) (to_next L (done ++ take offset piece) part h.next);
+        after = λ v. h.after (of_viable L (done ++ take (offset + 1) piece) (subst (IsViable L) on v));
+      };
     }
 
 on_taken : (done piece after : List ℕ) (offset : ℕ) → offset < length piece → take (length done + offset + 1) (done ++ (piece ++ after)) ≡ done ++ take (offset + 1) piece

@@ -171,7 +171,7 @@ start_agrees K L form (response is m) (response js n) k p q t u r s =
     (AreEach (IsInterimText K form) is then IsNumber parts.Status m) (AreEach (IsInterimText L form) js then IsNumber parts.Status n)
     (λ e. ap₂ response e.0 e.1)
     (agree_each_then ⊥ (m ≡ n) IsInterim (IsInterimText K form) (IsInterimText L form) (IsNumber parts.Status m) (IsNumber parts.Status n)
-    (interims_end K L form m n p.low q.low) is js p.each q.each)
+    (interims_end K L form m n p.final.low q.final.low) is js p.each q.each)
     t u r.1 s.1
 
 -- ---- messages

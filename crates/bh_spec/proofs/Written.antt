@@ -181,14 +181,14 @@ has_interim L form i h =
 interims_ready : (L : Bounds) (is : List Interim) → All IsInterim is → All (λ i. FieldsFit integers i.fields) is → All (λ i. FieldsFit L i.fields) is → All (InterimReady L) is
 interims_ready L is p q r k d h =
     let i = p k d h in
-    (omega (arith, i.high), (headers_lower _ i.fields, (q k d h, r k d h)))
+    (omega (arith, i.number.high), (headers_lower _ i.fields, (q k d h, r k d h)))
 
 has_start : (L : Bounds) (form : Form) (a : Start) → IsStart a → StartFits integers a → StartFits L a → Has (IsStartText L form a) (start form a)
 has_start L form (request c) v small fits = has_request L c v.scheme.lower_case small fits
 has_start L form (response is s) v small fits =
     let all = has_then (AreEach (IsInterimText L form) is) (IsNumber parts.Status s) (flat_map (interim form) is) (int s)
     (has_each (InterimReady L) (IsInterimText L form) (interim form) (has_interim L form) is (interims_ready L is v.each small.1 fits.1))
-    (has_int parts.Status s (omega (arith, v.high))) in
+    (has_int parts.Status s (omega (arith, v.final.high))) in
     (all.0, (fits.0, all.1), all.2)
 
 small_framing : (k : Kind) (form : Form) → framing k form ≤ greatest

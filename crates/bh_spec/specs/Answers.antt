@@ -1,8 +1,9 @@
 -- The answer for an input: the message that it spells, or why and where it is refused.
-use Rattle.std.specs.Prelude.{ℕ, ◌≡◌, ◌<◌, ◌+◌, List, length, take, Some}
+use Rattle.std.specs.Prelude.{ℕ, ◌≡◌, ◌<◌, ◌+◌, List, [], length, take, Some}
 use Rattle.bh_spec.specs.Bounds.{Bounds, IsWithin, no_bounds}
 use Rattle.bh_spec.specs.Messages.{Message}
-use Rattle.bh_spec.specs.Viable.{SpellsBytes, IsViable, NextPart}
+use Rattle.bh_spec.specs.Pieces.{IsRefused}
+use Rattle.bh_spec.specs.Viable.{SpellsBytes, IsMessageText, IsViable, NextPart}
 use Rattle.bh_spec.specs.declared.Part.{Part}
 use Rattle.bh_spec.specs.declared.Omitted.{Omitted}
 use Rattle.bh_spec.specs.declared.Refusal.{Refusal}
@@ -13,13 +14,11 @@ pub data Answer : Type 0 where
   whole : Message → Omitted → ℕ → Answer
   refused : Refusal → Answer
 
--- The byte numbered `at` is the first, within the limit of the input, after which no message within the limits continues the bytes.
+-- The byte numbered `at` is the first, within the limit of the input, after which no message within the limits continues the bytes:
+-- the input is one piece, with nothing before it.
 pub record IsRefusedAt (L : Bounds) (bytes : List ℕ) (at : ℕ) (part : Part) : Type 0 where
-  pub inside : at < length bytes
   pub seen : IsWithin L.input (at + 1)
-  pub before : IsViable L (take at bytes)
-  pub after : IsViable L (take (at + 1) bytes) → ⊥
-  pub next : NextPart L (take at bytes) part
+  pub first : IsRefused (IsMessageText L) [] bytes at part
 
 -- The whole input is viable, and isn't a message.
 pub record HasEnded (L : Bounds) (bytes : List ℕ) (at : ℕ) (part : Part) : Type 0 where

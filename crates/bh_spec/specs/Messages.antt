@@ -94,15 +94,23 @@ pub record IsControl (c : Control) : Type 0 where
   pub authority : All (λ byte. IsTrue (is_authority byte)) c.authority
   pub path : IsPath c c.path
 
+-- the status of an informational response (RFC 9110, section 15.2; RFC 9292, section 3.5.1)
+pub record IsInterimStatus (status : ℕ) : Type 0 where
+  pub low : 100 ≤ status
+  pub high : status ≤ 199
+
+-- the status of a final response (RFC 9110, section 15; RFC 9292, section 3.5)
+pub record IsFinalStatus (status : ℕ) : Type 0 where
+  pub low : 200 ≤ status
+  pub high : status ≤ 599
+
 pub record IsInterim (interim : Interim) : Type 0 where
-  pub low : 100 ≤ interim.status
-  pub high : interim.status ≤ 199
+  pub number : IsInterimStatus interim.status
   pub fields : AreHeaders interim.fields
 
 pub record IsResponse (interims : List Interim) (status : ℕ) : Type 0 where
   pub each : All IsInterim interims
-  pub low : 200 ≤ status
-  pub high : status ≤ 599
+  pub final : IsFinalStatus status
 
 abbrev pub IsStart : Start → Type 0
 IsStart (request control) = IsControl control

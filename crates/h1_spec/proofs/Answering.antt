@@ -51,7 +51,7 @@ before_refused : (L : Bounds) (to_head : Bool) (bytes : List ℕ) (k at : ℕ) (
 before_refused L to_head bytes k at part f a r none = by_order (order k at)
   where
     behind : at ≤ k → ⊥
-    behind h = r.after (viable_less L (at + 1) (k + 1) bytes (omega (arith, h)) (judged_viable L to_head (take (k + 1) bytes) f a.judged))
+    behind h = r.first.after (viable_less L (at + 1) (k + 1) bytes (omega (arith, h)) (judged_viable L to_head (take (k + 1) bytes) f a.judged))
 
     by_order : (k < at) ⊎ ((at < k) ⊎ (k ≡ at)) → ⊥
     by_order (inl h) = not_there L to_head bytes k at f a none h

@@ -106,7 +106,7 @@ goes L i t h =
       more = status ++ tail;
       bytes = bytes_of-append status tail ∙ ap₂ (λ (a b : List ℕ). a ++ b) (unmark parts.Status (vi 200 Two)) (no_section_bytes h.form);
       opens = record {
-        start_is = record { each = h.each; low = omega arith; high = omega arith };
+        start_is = record { each = h.each; final = record { low = omega arith; high = omega arith } };
         fields_are = no_headers;
         spelled = (
           s.0,

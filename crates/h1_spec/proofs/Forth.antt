@@ -67,16 +67,15 @@ interim_written : (L : Bounds) (i : Interim) → IsInterim i → AreFree (of_int
     → IsInterimHead L (clean_interim i) (interim_text (clean_interim i))
 interim_written L i h free within fits =
     let fields : All IsHeadField (clean (hops i.fields) false i.fields) = clean_headers false i.fields h.fields free.1.0 free.1.1.0 in
-    let high : i.status ≤ 599 = omega (arith, h.high) in
+    let high : i.status ≤ 599 = omega (arith, h.number.high) in
     record {
       head = record { start = status_line i.status; fields = clean (hops i.fields) false i.fields };
       text = (
         within,
-        (status_text i.status, field_lines (clean (hops i.fields) false i.fields) ++ crlf, status_written i.status h.low high, section_written (clean (hops i.fields) false i.fields) fields, refl),
+        (status_text i.status, field_lines (clean (hops i.fields) false i.fields) ++ crlf, status_written i.status h.number.low high, section_written (clean (hops i.fields) false i.fields) fields, refl),
       );
       status = refl;
-      low = h.low;
-      high = h.high;
+      number = h.number;
       stays = eqb-false i.status 101 free.0;
       fields = sym (clean_twice (hops i.fields) false i.fields);
       fits = fits;
@@ -508,7 +507,7 @@ built L scheme to_head (response is status) fs content ts valid own_scheme free 
     let kept : All IsHeadField (clean (hops fs) false fs) = clean_headers false fs valid.fields rest.0 rest.1.0 in
     let all : List Field = all_fields (hops fs) [] fs f in
     let ends : All IsHeadField n.trailers = text_fields n.trailers (All-filter (λ (g : Field). not (is_among (connection_names ++ (hops fs ++ kept_names)) g.name)) IsRegularField ts valid.trailers) (body_values f content n.trailers body) in
-    let low : 100 ≤ status = omega (arith, valid.start.low) in
+    let low : 100 ≤ status = omega (arith, valid.start.final.low) in
     let by : framing to_head (record { start = status_line status; fields = all }) ≡ f =
     ap₂ (λ (x y : List (List ℕ)). cond (is_bodyless to_head status) Empty (body_by ToEnd x y)) (written_codings (hops fs) [] fs f) (written_lengths (hops fs) [] fs f)
     ∙ framing_response (is_bodyless to_head status) (lengths n.fields) in
@@ -522,13 +521,13 @@ built L scheme to_head (response is status) fs content ts valid own_scheme free 
         (
           head_text f n,
           body_text f n,
-          (keeps.head, (status_text status, field_lines all ++ crlf, status_written status low valid.start.high, section_written all (whole_fields [] fs f (All-nil (λ b. IsTrue (is_authority b))) kept), refl)),
+          (keeps.head, (status_text status, field_lines all ++ crlf, status_written status low valid.start.final.high, section_written all (whole_fields [] fs f (All-nil (λ b. IsTrue (is_authority b))) kept), refl)),
           subst (λ (g : Framing1). IsBody L g content n.trailers (body_text f n)) (sym by) (body_written L f n (no_end (is_bodyless to_head status) (lengths n.fields) false) body ends keeps.trailers),
           refl,
         ),
         refl,
       );
-      start = (refl, valid.start.low);
+      start = (refl, valid.start.final.low);
       coded = subst₂ IsCodedBy (sym (written_codings (hops fs) [] fs f)) (sym (written_lengths (hops fs) [] fs f)) (coded_written (is_bodyless to_head status) (lengths n.fields) false);
       counted = written_count fs [] f rest.1.1.0;
       fields = written_clean (hops fs) [] fs f;

@@ -140,7 +140,7 @@ begin_others L form (j ∷ js) [] s a b x y p q low u v e =
     ∙ ap (λ (w : List ℕ). w ++ x) (sym (append_assoc (bytes_of t.0) (bytes_of t.1) (bytes_of u.1)) ∙ ap (λ (w : List ℕ). w ++ bytes_of u.1) (sym (bytes_of-append t.0 t.1) ∙ ap bytes_of (sym t.4))
     ∙ sym (bytes_of-append u.0 u.1) ∙ ap bytes_of (sym u.4)) ∙ e ∙ ap (λ (w : Text). bytes_of w ++ y) (v.4 ∙ ap (λ (w : Text). w ++ v.1) none) in
     let same = meets_front (j.status ≡ s) t.0 v.1 ((bytes_of t.1 ++ bytes_of u.1) ++ x) y (number_meets parts.Status j.status s t.0 v.1 t.2 num) all in
-    let high : j.status ≤ 199 = (All-head IsInterim j js p).high in
+    let high : j.status ≤ 199 = (All-head IsInterim j js p).number.high in
     absurd (omega (arith, same.0, high, low))
 begin_others L form (j ∷ js) (i ∷ is) s a b x y p q low u v e =
     let w = v.2 in
@@ -184,7 +184,7 @@ interim_free L m o z (response is final) bytes front more i p w k n b e h free =
     let first = meets_front (framing Response g.form ≡ framing Response w.form) s.0 w.number (bytes_of s.1 ++ more) (bytes_of (w.begun ++ w.section) ++ bytes_of w.tail)
     (number_meets parts.Framing (framing Response g.form) (framing Response w.form) s.0 w.number s.2 n) all in
     let form_is : g.form ≡ w.form = (framing_is Response Response g.form w.form first.0).1 in
-    let found = begin_others L w.form (g.before ++ i ∷ []) is final s.1 w.begun more (bytes_of w.section ++ bytes_of w.tail) g.each p.each p.low
+    let found = begin_others L w.form (g.before ++ i ∷ []) is final s.1 w.begun more (bytes_of w.section ++ bytes_of w.tail) g.each p.each p.final.low
     (subst (λ (f : Form). AreEach (IsInterimText L f) (g.before ++ i ∷ []) s.1) form_is s.3) b.1
     (first.2 ∙ ap (λ (x : List ℕ). x ++ bytes_of w.tail) (bytes_of-append w.begun w.section) ∙ append_assoc (bytes_of w.begun) (bytes_of w.section) (bytes_of w.tail)) in
     among_free g.before found.0 i (subst (λ (js : List Interim). AreFree (flat_map of_interim js)) found.1 free)

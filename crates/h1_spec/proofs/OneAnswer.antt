@@ -129,7 +129,7 @@ interim_passes L scheme to_head is i x r c h few cause =
     let a = when_not why.Switching (i.status ≡ 101) (why.Interims when (TooMany L is i.status) else why.HeadLimit when (OwnFit L h.head → ⊥) else Last L to_head h.head r i.status) c h.stays start in
     let b = when_not why.Interims (TooMany L is i.status) (why.HeadLimit when (OwnFit L h.head → ⊥) else Last L to_head h.head r i.status) c (λ n. n.1 few) a in
     let d = when_not why.HeadLimit (OwnFit L h.head → ⊥) (Last L to_head h.head r i.status) c (λ n. n (subst (FieldsFit L) h.fields h.fits)) b in
-    omega (arith, d.0, h.high)
+    omega (arith, d.0, h.number.high)
 
 -- ---- one cause
 

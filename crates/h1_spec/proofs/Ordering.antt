@@ -185,7 +185,7 @@ its_place L m o z start bytes front more i t p w n b e h f =
     by_start (response is final) p n b all =
         let first = meets_front (framing Response h.form ≡ framing Response w.form) h.spelled.0 w.number (bytes_of h.spelled.1 ++ more) (bytes_of (w.begun ++ w.section) ++ bytes_of w.tail)
         (number_meets parts.Framing (framing Response h.form) (framing Response w.form) h.spelled.0 w.number h.spelled.2 n) all in
-        begin_others L w.form (h.before ++ i ∷ []) is final h.spelled.1 w.begun more (bytes_of w.section ++ bytes_of w.tail) h.each p.each p.low
+        begin_others L w.form (h.before ++ i ∷ []) is final h.spelled.1 w.begun more (bytes_of w.section ++ bytes_of w.tail) h.each p.each p.final.low
         (subst (λ (f : Form). AreEach (IsInterimText L f) (h.before ++ i ∷ []) h.spelled.1) (framing_is Response Response h.form w.form first.0).1 h.spelled.3) b.1
         (first.2 ∙ ap (λ (x : List ℕ). x ++ bytes_of w.tail) (bytes_of-append w.begun w.section) ∙ append_assoc (bytes_of w.begun) (bytes_of w.section) (bytes_of w.tail))
 

@@ -52,7 +52,7 @@ start_is_last scheme head (response is status) h s e n =
 pub interim_apart : (K L : Bounds) (i : Interim) (head : Head) → IsLast head → Apart (IsInterimHead K i) (IsHeadWithin L head)
 interim_apart K L i head last x y r s p q e =
     let both = within_front K L p.head head x y r s p.text q e in
-    last i.status (sym (ap (λ (h : Head). h.start) both.0) ∙ p.status) p.high
+    last i.status (sym (ap (λ (h : Head). h.start) both.0) ∙ p.status) p.number.high
 
 abbrev Any : Interim → Type 0
 Any i = Unit {0}
@@ -118,8 +118,7 @@ interim_unlimited L i x h = record {
   head = h.head;
   text = (tt, h.text.1);
   status = h.status;
-  low = h.low;
-  high = h.high;
+  number = h.number;
   stays = h.stays;
   fields = h.fields;
   fits = no_fields_limit i.fields;

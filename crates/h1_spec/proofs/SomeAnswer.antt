@@ -411,8 +411,7 @@ heads_have L scheme to_head all bytes clear none (suc n) is x y l few each same 
               head = h;
               text = (within, head);
               status = s;
-              low = low_status h.start status head.2.0 s head.2.2;
-              high = high;
+              number = record { low = low_status h.start status head.2.0 s head.2.2; high = high };
               stays = stays;
               fields = refl;
               fits = fit;

@@ -236,8 +236,7 @@ early_interim = record {
   head = status_head 103 [];
   text = (omega arith, early_is);
   status = refl;
-  low = omega arith;
-  high = omega arith;
+  number = record { low = omega arith; high = omega arith };
   stays = λ e. omega (arith, e);
   fields = refl;
   fits = none_fit;

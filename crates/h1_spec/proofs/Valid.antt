@@ -32,7 +32,7 @@ all_headers fs h = ([], fs, refl, All-nil IsPseudoField, All-weaker IsHeadField 
 interims_valid : (L : Bounds) (is : List Interim) (x : List ℕ) → AreEach (IsInterimHead L) is x → All IsInterim is
 interims_valid L [] x h = All-nil IsInterim
 interims_valid L (i ∷ is) x h =
-    All-cons IsInterim i is (record { low = h.2.low; high = h.2.high; fields = all_headers i.fields (interim_fields L i h.0 h.2) }) (interims_valid L is h.1 h.3)
+    All-cons IsInterim i is (record { number = h.2.number; fields = all_headers i.fields (interim_fields L i h.0 h.2) }) (interims_valid L is h.1 h.3)
 
 scheme_valid : (s : List ℕ) → IsWeb s → IsScheme s
 scheme_valid s (inl e) = subst IsScheme (sym e) (record { letter = (104, codes "ttp", refl, refl); each = AllPass-from_list_all is_scheme (codes "http") refl; lower_case = refl })
@@ -94,7 +94,7 @@ start_valid L scheme head (request c) line x each l s =
     }
 start_valid L scheme head (response is status) line x each l s =
     let own = subst (λ (z : StartLine). IsStartLine z line) s.0 l in
-    record { each = interims_valid L is x each; low = s.1; high = own.1 }
+    record { each = interims_valid L is x each; final = record { low = s.1; high = own.1 } }
 
 pub read_is_valid : ReadIsValid
 read_is_valid L scheme to_head m bytes h = record {

@@ -2,7 +2,7 @@
 use Rattle.std.specs.Prelude.{ℕ, ◌≡◌, ◌≤◌, Bool, false, List, [], length, codes}
 use Rattle.bh_spec.specs.Bounds.{Bounds, IsWithin}
 use Rattle.bh_spec.specs.Bytes.{AreBytes}
-use Rattle.bh_spec.specs.Messages.{Field, Interim, Start, request, response, Message}
+use Rattle.bh_spec.specs.Messages.{Field, Interim, Start, request, response, Message, IsInterimStatus}
 use Rattle.bh_spec.specs.Canonical.{FieldsFit, Fits}
 use Rattle.h1_spec.specs.declared.Scheme1.{Scheme1}
 use Rattle.bh_spec.specs.Texts.{◌then◌, AreEach}
@@ -21,8 +21,7 @@ pub record IsInterimHead (L : Bounds) (interim : Interim) (bytes : List ℕ) : T
   pub head : Head
   pub text : IsHeadWithin L head bytes
   pub status : head.start ≡ status_line interim.status
-  pub low : 100 ≤ interim.status
-  pub high : interim.status ≤ 199
+  pub number : IsInterimStatus interim.status
   pub stays : interim.status ≡ 101 → ⊥
   pub fields : interim.fields ≡ clean (hops head.fields) false head.fields
   pub fits : FieldsFit L interim.fields
