@@ -1,0 +1,4 @@
+pub mod Owing
+pub mod Sent
+pub mod Heads
+pub mod Events

@@ -115,10 +115,9 @@ impl<S: Sink> Job<S, Reading> for CanonWriter {
     }
 
     fn finish(&mut self, sink: &mut S) -> Result<(), Failed> {
-        let stage = mem::replace(&mut self.stage, Stage::Ended);
-        match stage {
-            Stage::Content(_) => send_end(stage, sink, &self.chunk, &self.none),
-            _ => Ok(()),
+        if let Stage::Content(encoder) = mem::replace(&mut self.stage, Stage::Ended) {
+            return send_end(Stage::Content(encoder), sink, &self.chunk, &self.none);
         }
+        Ok(())
     }
 }

@@ -1,0 +1,2 @@
+use Rattle.bh_canonical.proofs.writer.CanonWriterJobReading.finish.Goals as goal
+
