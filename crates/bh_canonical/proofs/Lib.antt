@@ -2,3 +2,4 @@ pub mod Owing
 pub mod Sent
 pub mod Heads
 pub mod Events
+pub mod Weighs

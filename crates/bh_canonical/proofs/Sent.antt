@@ -18,7 +18,7 @@ use Rattle.bh_stream.specs.Decoding.{content_items}
 use Rattle.bh_stream.specs.Jobs.{Sends, SendsRest}
 use Rattle.bh_stream.proofs.Moving.{items-map}
 use Rattle.bh_stream.proofs.Outputs.{written-append, written_plain, shown_plain}
-use Rattle.bh_encode.specs.Calls.{text_of, interim_call}
+use Rattle.bh_encode.specs.Calls.{Encoder, text_of, interim_call}
 use Rattle.bh_encode.specs.Sending.{Sends as Sent}
 use Rattle.bh_encode.proofs.Sending.{none_sent}
 use Rattle.bh_reading.specs.Coming.{HeadComes}
@@ -259,6 +259,22 @@ module _ {S : Type 0} {step : S → Step → S → Type 0} where
     part = (sent.part.2, record { rest = sent.part.0; split = ap written (rest_due kept (ending omitted padding ∷ []) refl) ∙ written_rest kept [] ∙ sym (ap (end_text kept) empty) ∙ sent.part.1 });
   }
 
-  -- there is no rest
-  pub no_rest : (s : S) → SendsRest step true [] s (Ok tt) s
-  no_rest s = record { steps = []; chain = none; alone = λ e. refl; whole = (refl, refl); part = tt }
+  pub finish_went : {s t : S} (old : Writing) (stage : Stage) (kept : List ℕ) → writing_of stage kept ≡ old → (e : Encoder) → stage ≡ stages.Content e → (fields : List Field) → fields ≡ []
+      → (r : Result (Unit {0}) Failed) → Sent step s (end_text kept fields) r t → (omitted : Omitted) (padding : ℕ) → SendsRest step true (owed old (ending omitted padding ∷ [])) s r t
+  finish_went {s = s} {t = t} old stage kept view e is fields empty r sent omitted padding =
+      subst (λ (w : Writing). SendsRest step true (owed w (ending omitted padding ∷ [])) s r t) (ap (λ (st : Stage). writing_of st kept) (sym is) ∙ view) (rest_went kept fields r empty omitted padding sent)
+
+  -- nothing is owed for the end but behind the head
+  pub finish_none : (old : Writing) (stage : Stage) (kept : List ℕ) → writing_of stage kept ≡ old → (s : S) → ((e : Encoder) → stage ≡ stages.Content e → ⊥)
+      → (omitted : Omitted) (padding : ℕ) → SendsRest step true (owed old (ending omitted padding ∷ [])) s (Ok tt) s
+  finish_none old stage kept view s other omitted padding =
+      subst (λ (w : Writing). SendsRest step true (owed w (ending omitted padding ∷ [])) s (Ok tt) s) view (subst (λ (o : Output). SendsRest step true o s (Ok tt) s) (sym (nothing stage other)) no_rest)
+    where
+      nothing : (st : Stage) → ((e : Encoder) → st ≡ stages.Content e → ⊥) → owed (writing_of st kept) (ending omitted padding ∷ []) ≡ []
+      nothing stages.Start h = refl
+      nothing (stages.Interims e) h = refl
+      nothing (stages.Content e) h = absurd (h e refl)
+      nothing stages.Ended h = refl
+
+      no_rest : SendsRest step true [] s (Ok tt) s
+      no_rest = record { steps = []; chain = none; alone = λ e. refl; whole = (refl, refl); part = tt }
