@@ -1,21 +1,19 @@
 -- The events of a job, as the decoder shows them.
-use Rattle.std.proofs.Common.{◌≡◌, ℕ, List, [], ◌∷◌, ◌++◌, length, ◌<◌, map, Some, IfSome, true, Result, Ok, Err, refl, sym, ap, subst}
+use Rattle.std.proofs.Common.{◌≡◌, ℕ, List, [], ◌∷◌, Some, IfSome, true, Result, Ok, Err, sym, subst}
 use Rattle.bh_spec.specs.declared.Kind.TheVariants.{Response}
 use Rattle.bh_spec.specs.Messages.{Field, IsInterim, AreTrailers}
-use Rattle.bh_spec.specs.Items.{Item, interim_response, head, content_byte, trailer_section, Head}
+use Rattle.bh_spec.specs.Items.{Item, interim_response, head, trailer_section, Head}
 use Rattle.bh_base.specs.declared.failed.Failed.{Failed}
 use Rattle.bh_base.specs.Steps.{Step}
 use Rattle.bh_base.specs.Batches.{Writes}
-use Rattle.bh_push.specs.Hands.{Held, kind_of_head}
 use Rattle.bh_stream.specs.declared.traits.Event.{Event}
 use Rattle.bh_stream.specs.declared.traits.Event.TheVariants as events
 use Rattle.bh_encode.specs.Sending.{Sends as Sent}
 use Rattle.bh_encode.proofs.Sending.{wrote}
 use Rattle.bh_reading.specs.Readings.{Counted, shows}
-use Rattle.bh_reading.specs.Coming.{HeadComes}
 use Rattle.bh_reading.proofs.ReadingOn.{shown_of}
 use Rattle.bh_canonical.specs.Stages.{is_begun, IsBeforeHead, IsInContent, HeadDue}
-use Rattle.bh_canonical.specs.Writers.{Writing, behind_all, takes, writing_of, IsStage}
+use Rattle.bh_canonical.specs.Writers.{Writing, takes, writing_of, IsStage}
 use Rattle.bh_canonical.specs.declared.sending.Stage.{Stage}
 use Rattle.bh_canonical.specs.declared.sending.Stage.TheVariants as stages
 use Rattle.bh_canonical.proofs.Sent.{JobSends, interim_text, head_text, end_text, interim_may, head_may, trailers_may, interim_went, interim_cut, head_went, head_cut, trailers_went}

@@ -1,14 +1,13 @@
 -- The head that a decoder shows, as a call of the encoder.
-use Rattle.std.proofs.Common.{◌≡◌, ℕ, Bool, true, false, List, Option, Some, None, IfSome, Result, Ok, Err, refl, sym, ◌∙◌, ap, subst, arith, length, ◌≤◌}
+use Rattle.std.proofs.Common.{◌≡◌, ℕ, Bool, false, List, Some, None, IfSome, Err, sym, ◌∙◌, ap, subst, arith, length, ◌≤◌}
 use Rattle.bh_spec.specs.declared.Kind.TheVariants.{Request, Response}
-use Rattle.bh_spec.specs.Bounds.{Bounds}
 use Rattle.bh_spec.specs.Messages.{Field, Control, IsControl, AreHeaders}
 use Rattle.bh_spec.specs.Canonical.{ControlFits, integers}
 use Rattle.bh_spec.specs.Items.{Head, of_request, of_response}
 use Rattle.bh_base.specs.Steps.{Step}
 use Rattle.bh_base.specs.Batches.{Writes}
 use Rattle.bh_push.specs.Hands.{Held, control_shown, status_shown, kind_of_head}
-use Rattle.bh_encode.specs.Calls.{Encoder, text_of, request_head, response_head}
+use Rattle.bh_encode.specs.Calls.{text_of, request_head, response_head}
 use Rattle.bh_reading.specs.Coming.{StartComes}
 use Rattle.bh_reading.proofs.Fits.{control_held}
 use Rattle.bh_reading.proofs.ReadingOn.{shown_of}

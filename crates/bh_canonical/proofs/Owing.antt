@@ -1,11 +1,11 @@
 -- Laws of what is still to be written.
-use Rattle.std.proofs.Common.{◌≡◌, ◌≤◌, ◌<◌, ◌+◌, ℕ, List, [], ◌∷◌, ◌++◌, length, take, drop, map, flat_map, refl, sym, ◌∙◌, ap, arith, append_assoc, append-nil, length-append}
+use Rattle.std.proofs.Common.{◌≡◌, ℕ, List, [], ◌∷◌, ◌++◌, length, take, drop, map, flat_map, refl, sym, ◌∙◌, ap, arith, append_assoc, append-nil, length-append}
 use Rattle.std.specs.List.{concat}
 use Rattle.bh_spec.specs.declared.Form.TheVariants.{Indeterminate}
 use Rattle.bh_spec.specs.Integers.{int}
 use Rattle.bh_spec.specs.Messages.{Field}
 use Rattle.bh_spec.specs.Canonical.{string, section, cut}
-use Rattle.bh_spec.specs.Items.{Item, content_byte, trailer_section}
+use Rattle.bh_spec.specs.Items.{Item, content_byte}
 use Rattle.bh_spec.proofs.Written.{cut_whole}
 use Rattle.bh_stream.specs.Outputs.{Output, written, shown_in, plain, shown}
 use Rattle.bh_stream.proofs.Outputs.{written-append, shown-append, written_plain, written_shown, shown_plain, shown_shown}

@@ -1,5 +1,5 @@
 -- What a job sends for items, from what it sends.
-use Rattle.std.proofs.Common.{◌≡◌, ◌≤◌, ◌<◌, ◌+◌, ℕ, true, false, List, [], ◌∷◌, ◌++◌, length, take, drop, map, flat_map, Result, Ok, Err, refl, sym, ◌∙◌, ap, subst, arith, append_assoc, take-append-drop, length-append, append-nil}
+use Rattle.std.proofs.Common.{◌≡◌, ◌≤◌, ◌<◌, ◌+◌, ℕ, true, List, [], ◌∷◌, ◌++◌, length, take, drop, map, flat_map, Result, Ok, Err, refl, sym, ◌∙◌, ap, subst, arith, append_assoc, take-append-drop, length-append, append-nil}
 use Rattle.bh_spec.specs.declared.Kind.TheVariants.{Response}
 use Rattle.bh_spec.specs.declared.Omitted.{Omitted}
 use Rattle.bh_spec.specs.declared.Form.TheVariants.{Indeterminate}
@@ -9,7 +9,7 @@ use Rattle.bh_spec.specs.Messages.{Field, IsInterim, AreTrailers}
 use Rattle.bh_spec.specs.Canonical.{string, section, cut}
 use Rattle.bh_spec.specs.Items.{Item, interim_response, head, content_byte, trailer_section, ending, Head}
 use Rattle.bh_base.specs.declared.failed.Failed.{Failed}
-use Rattle.bh_base.specs.Steps.{Step, none, is_bad_write}
+use Rattle.bh_base.specs.Steps.{Step, none}
 use Rattle.bh_model.specs.Ranges.{AreLimits}
 use Rattle.bh_push.specs.Hands.{kind_of_head}
 use Rattle.bh_stream.specs.Outputs.{Output, written, shown_in, plain}

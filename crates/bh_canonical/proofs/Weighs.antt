@@ -1,7 +1,6 @@
 -- The canonical text of a message as a text of the grammar, with the content that is whole with each byte.
-use Rattle.std.proofs.Common.{◌≡◌, ◌≤◌, ◌<◌, ℕ, Bool, true, false, if◌then◌else◌, nat_eq, List, [], ◌∷◌, ◌++◌, length, map, All, flat_map, refl, sym, ap, ap₂, ◌∙◌, arith}
+use Rattle.std.proofs.Common.{◌≡◌, ◌≤◌, ◌<◌, ℕ, if◌then◌else◌, nat_eq, List, [], ◌∷◌, ◌++◌, length, All, flat_map, refl, ap, ap₂, ◌∙◌, arith}
 use Rattle.std.proofs.lemmas.List.Elements.{All-head, All-tail, All-weaker}
-use Rattle.bh_spec.specs.declared.Part.{Part}
 use Rattle.bh_spec.specs.declared.Part.TheVariants as parts
 use Rattle.bh_spec.specs.declared.Form.TheVariants.{Indeterminate}
 use Rattle.bh_spec.specs.declared.Omitted.TheVariants.{Nothing}

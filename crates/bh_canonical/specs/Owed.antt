@@ -1,5 +1,5 @@
 -- What is still to be written of a canonical text, by the items that are still to come.
-use Rattle.std.specs.Prelude.{ℕ, Bool, true, false, List, [], ◌∷◌, ◌++◌, length, flat_map}
+use Rattle.std.specs.Prelude.{ℕ, Bool, true, List, [], ◌∷◌, ◌++◌, length, flat_map}
 use Rattle.bh_spec.specs.declared.Kind.TheVariants.{Response}
 use Rattle.bh_spec.specs.declared.Form.TheVariants.{Indeterminate}
 use Rattle.bh_spec.specs.Integers.{int}

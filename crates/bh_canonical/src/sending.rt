@@ -102,11 +102,7 @@ fn send_response<S: Sink>(
 }
 
 /// Sends the head that the decoder shows.
-pub fn send_head<S: Sink>(
-    stage: Stage,
-    sink: &mut S,
-    decoder: &Decoder,
-) -> Result<Stage, Failed>
+pub fn send_head<S: Sink>(stage: Stage, sink: &mut S, decoder: &Decoder) -> Result<Stage, Failed>
     requires stage { IsBeforeHead stage }
     requires due { HeadDue (is_begun stage) decoder.now }
     ensures wrote { (of : Head) (fields : _) → decoder.now.head ≡ Some of → decoder.now.lines ≡ Some fields

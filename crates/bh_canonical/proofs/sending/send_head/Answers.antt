@@ -1,4 +1,4 @@
-use Rattle.std.proofs.Common.{◌≡◌, ℕ, List, subst}
+use Rattle.std.proofs.Common.{ℕ, List, subst}
 use Rattle.bh_base.specs.Batches.{Writes}
 use Rattle.bh_model.specs.Values.{control_lent}
 use Rattle.bh_canonical.specs.Stages.{is_begun}

@@ -1,9 +1,8 @@
-use Rattle.std.proofs.Common.{◌≡◌, ◌≤◌, ◌-◌, ℕ, List, ◌++◌, length, take, drop, map, Ok, Err, ap, subst, sym, ◌∙◌, arith, length-drop, length-take, length-append}
+use Rattle.std.proofs.Common.{◌≡◌, ◌≤◌, ◌-◌, ℕ, List, ◌++◌, length, take, drop, map, Ok, Err, ap, subst, sym, arith, length-drop, length-take, length-append}
 use Rattle.std.proofs.lemmas.Grind.{common_steps}
 use Rattle.bh_spec.specs.Items.{Item, content_byte}
 use Rattle.bh_canonical.specs.Stages.{IsInContent}
 use Rattle.bh_canonical.specs.Writers.{Writing, takes, writing_of}
-use Rattle.bh_canonical.specs.declared.sending.Stage.{Stage}
 use Rattle.bh_canonical.proofs.Sent.{JobSends, is_in_content, content_kept, chunk_went, chunk_cut, cut_at}
 use Rattle.bh_canonical.proofs.writer.CanonWriterJobReading.content.Goals as goal
 

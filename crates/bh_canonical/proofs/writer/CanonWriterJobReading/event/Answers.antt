@@ -52,4 +52,3 @@ returns-in-Trailers g c =
     (ap (λ (st : Stage). writing_of st kept) c.replace-stage.ensures.value ∙ c.self.view_is)
     (subst (λ (st : Stage). IsStage st kept) (sym c.replace-stage.ensures.value) c.self.invariant.stage)
     c.send_end.result c.in-Trailers.is c.fields-in-Trailers.result.now.lines (subst (λ (h : Held). IfSome h.lines (λ ls. c.fields-in-Trailers.result.now.lines ≡ ls)) c.decoder-shown.ensures c.fields-in-Trailers.ensures.lines) c.replace-stage.new.dest c.replace-stage.ensures.after (rw c.deref.ensures.value at c.send_end.ensures)
-

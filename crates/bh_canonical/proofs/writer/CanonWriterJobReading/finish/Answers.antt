@@ -1,6 +1,4 @@
-use Rattle.std.proofs.Common.{ap, sym, ◌∙◌}
-use Rattle.bh_canonical.specs.Writers.{writing_of}
-use Rattle.bh_canonical.specs.declared.sending.Stage.{Stage}
+use Rattle.std.proofs.Common.{sym, ◌∙◌}
 use Rattle.bh_canonical.proofs.Sent.{finish_went, finish_none}
 use Rattle.bh_canonical.proofs.writer.CanonWriterJobReading.finish.Goals as goal
 
