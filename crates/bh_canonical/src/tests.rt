@@ -1,0 +1,1 @@
+//! Canonical texts over ports in memory.
