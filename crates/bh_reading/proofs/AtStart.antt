@@ -1,5 +1,5 @@
 -- What a decoder at the start of a call knows of messages.
-use Rattle.std.proofs.Common.{◌≡◌, ◌≤◌, ◌<◌, ◌-◌, ℕ, Option, Some, None, List, [], ◌∷◌, ◌++◌, refl, sym, ◌∙◌, ap, subst, arith, inr}
+use Rattle.std.proofs.Common.{◌≡◌, ℕ, Some, List, [], ◌∷◌, refl, sym, ◌∙◌, ap, subst, arith, inr}
 use Rattle.bh_spec.specs.declared.Omitted.{Omitted}
 use Rattle.bh_spec.specs.declared.Width.TheVariants.{One}
 use Rattle.bh_spec.specs.Bounds.{Bounds, IsWithin}
@@ -10,13 +10,13 @@ use Rattle.bh_spec.specs.Spelling.{Spells}
 use Rattle.bh_spec.specs.Items.{Item, items, MessageOf}
 use Rattle.bh_spec.proofs.Framing.{framing_alive}
 use Rattle.bh_model.specs.Ranges.{AreLimits}
-use Rattle.bh_push.specs.Decoders.{At, Rest as rest_at, in_framing}
-use Rattle.bh_push.specs.Pushes.{DecoderView, start_view}
+use Rattle.bh_push.specs.Decoders.{Rest as rest_at}
+use Rattle.bh_push.specs.Pushes.{DecoderView}
 use Rattle.bh_push.proofs.Starting.{start_is}
 use Rattle.bh_stream.specs.Outputs.{written}
 use Rattle.bh_stream.specs.Jobs.{Owing}
 use Rattle.bh_stream.specs.Formats.{Knows}
-use Rattle.bh_reading.specs.Readings.{Counted, rest, room, within_limit, IsStart, IsReady}
+use Rattle.bh_reading.specs.Readings.{Counted, rest, room, IsStart, IsReady}
 use Rattle.bh_reading.specs.ReadingLaws.{room_at}
 
 -- some message is within the limits
@@ -30,7 +30,7 @@ module _ (L : Bounds) (limits : AreLimits L) (v : Counted) (start : IsStart L v)
   at_start q t h =
       subst (λ (d : DecoderView). rest_at d.limits d.at q t) (sym start.decoder) (start_is.back L q t h)
 
-  from_start : (q : List Item) (t : Text) → rest v q t → MessageOf L q t
+  pub from_start : (q : List Item) (t : Text) → rest v q t → MessageOf L q t
   from_start q t h = start_is.forth L q t (subst (λ (d : DecoderView). rest_at d.limits d.at q t) start.decoder h)
 
   input_is : v.held.decoder.limits.input ≡ Some limits.input

@@ -1,9 +1,8 @@
 -- A check of a message, by what the loop did.
-use Rattle.std.proofs.Common.{false, List, [], refl}
+use Rattle.std.proofs.Common.{false, [], refl}
 use Rattle.bh_spec.specs.declared.Refusal.{Refusal}
 use Rattle.bh_spec.specs.declared.Summary.{Summary}
 use Rattle.bh_spec.specs.Bounds.{Bounds}
-use Rattle.bh_spec.specs.Items.{Item}
 use Rattle.bh_base.specs.Steps.{Step}
 use Rattle.bh_model.specs.Ranges.{AreLimits}
 use Rattle.bh_stream.specs.Runs.{Streams}

@@ -1,5 +1,5 @@
 -- What the decoder of a call says is the answer for the input, and its counts are those of the summary.
-use Rattle.std.proofs.Common.{◌≡◌, ◌≤◌, ◌+◌, ◌^◌, ℕ, min, Option, Some, None, List, [], ◌∷◌, ◌++◌, length, take, map, refl, sym, ◌∙◌, ap, subst, arith, length-append, append-nil}
+use Rattle.std.proofs.Common.{◌≡◌, ◌≤◌, ◌+◌, ◌^◌, ℕ, Option, Some, None, List, [], ◌∷◌, ◌++◌, length, take, refl, sym, ◌∙◌, ap, subst, arith, append-nil}
 use Rattle.std.proofs.lemmas.List.{take_all}
 use Rattle.std.proofs.lemmas.List.Sums.{sum_by-cons}
 use Rattle.bh_spec.specs.declared.Kind.{Kind}
@@ -17,15 +17,15 @@ use Rattle.bh_spec.specs.Spelling.{Spells}
 use Rattle.bh_spec.specs.Tails.{IsTail}
 use Rattle.bh_spec.specs.Answers.{whole, refused, IsAnswer}
 use Rattle.bh_spec.specs.Reports.{interim_lines, line_count, summary}
-use Rattle.bh_spec.specs.Items.{Item, interim_response, head, content_byte, trailer_section, ending, of_request, of_response, start_items, trailer_items, tail_items, items}
-use Rattle.bh_spec.specs.Runs.{Call, Takes, AreTaken, bytes_taken}
+use Rattle.bh_spec.specs.Items.{Item, ending, start_items, tail_items, items}
+use Rattle.bh_spec.specs.Runs.{Call, Takes, bytes_taken}
 use Rattle.bh_push.specs.Decoders.{At, Rest as rest_at, in_framing}
-use Rattle.bh_push.specs.Pushes.{DecoderView, start_view, RefusesFirst, MissesAs, Finishes, IsBehind, AnswersEveryCut}
+use Rattle.bh_push.specs.Pushes.{DecoderView, start_view, Finishes, IsBehind, AnswersEveryCut}
 use Rattle.bh_push.proofs.Cuts.{one_answer_for_every_cut}
 use Rattle.bh_stream.specs.Decoding.{content_items}
 use Rattle.bh_stream.specs.Calls.{IsOfByte, IsOfEnd, Judges}
-use Rattle.bh_stream.proofs.Moving.{items-append, items-map}
-use Rattle.bh_reading.specs.Readings.{Counted, rest, room, lines_in, kind_behind, count, Moved, IsStart, refuses, misses, tells}
+use Rattle.bh_stream.proofs.Moving.{items-append}
+use Rattle.bh_reading.specs.Readings.{Counted, rest, lines_in, kind_behind, Moved, IsStart, refuses, misses, tells}
 use Rattle.bh_reading.specs.ReadingLaws.{lines-append, kind-append}
 
 -- ---- what the items of a message count

@@ -1,5 +1,5 @@
 -- What a push of the decoder of a call leads to.
-use Rattle.std.proofs.Common.{◌≡◌, ◌<◌, ◌≤◌, ◌+◌, ℕ, Option, Some, None, IfSome, List, [], ◌∷◌, length, take, map, refl, sym, ◌∙◌, ap, subst, arith, length-take, length-append}
+use Rattle.std.proofs.Common.{◌≡◌, ◌<◌, ◌≤◌, ◌+◌, ℕ, Option, Some, None, IfSome, List, [], ◌∷◌, length, take, map, refl, sym, ap, subst, arith, length-take, length-append}
 use Rattle.std.proofs.lemmas.List.{take_all}
 use Rattle.bh_spec.specs.declared.Kind.{Kind}
 use Rattle.bh_spec.specs.declared.Refusal.{Refusal}
@@ -13,7 +13,7 @@ use Rattle.bh_stream.specs.Decoding.{content_items, Took}
 use Rattle.bh_stream.proofs.Moving.{items-map}
 use Rattle.bh_stream.specs.declared.traits.Event.{Event}
 use Rattle.bh_stream.specs.declared.traits.Event.TheVariants as events
-use Rattle.bh_reading.specs.Readings.{Counted, lines_in, kind_behind, count, IsInput, Moved, IsReady, shows}
+use Rattle.bh_reading.specs.Readings.{Counted, lines_in, kind_behind, count, Moved, IsReady, shows}
 
 within_at : (o : Option ℕ) (limit n : ℕ) → o ≡ Some limit → IsWithin o n → n ≤ limit
 within_at (Some k) limit n e h = let same : k ≡ limit = cc in omega (arith, h, same)

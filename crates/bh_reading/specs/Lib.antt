@@ -2,3 +2,4 @@ pub mod Readings
 pub mod ContentLaws
 pub mod ReadingLaws
 pub mod Checks
+pub mod Coming

@@ -1,5 +1,5 @@
 -- What is known of the states of the decoder of a call.
-use Rattle.std.proofs.Common.{◌≡◌, ◌≤◌, ◌+◌, ◌-◌, ◌^◌, ℕ, min, Option, Some, None, List, [], ◌∷◌, ◌++◌, length, refl, sym, ◌∙◌, ap, subst, arith, append_assoc, length-append}
+use Rattle.std.proofs.Common.{◌≡◌, ◌+◌, ◌-◌, ℕ, Option, Some, None, List, [], ◌∷◌, ◌++◌, refl, sym, ◌∙◌, ap, subst, arith, append_assoc, length-append}
 use Rattle.bh_spec.specs.declared.Kind.{Kind}
 use Rattle.bh_spec.specs.Bounds.{Bounds, no_bounds}
 use Rattle.bh_spec.specs.Texts.{Text, bytes_of}
@@ -7,11 +7,11 @@ use Rattle.bh_spec.specs.Residuals.{IsResidual}
 use Rattle.bh_spec.specs.Items.{Item, interim_response, head, content_byte, trailer_section, ending}
 use Rattle.bh_spec.specs.Readers.{Moves}
 use Rattle.bh_spec.proofs.Residuals.{residual_here, residual_on}
-use Rattle.bh_push.specs.Decoders.{At, Rest as rest_at}
+use Rattle.bh_push.specs.Decoders.{Rest as rest_at}
 use Rattle.bh_push.specs.Hands.{kind_of_head}
-use Rattle.bh_stream.specs.Decoding.{content_items, Leads, DecoderLaws}
+use Rattle.bh_stream.specs.Decoding.{Leads, DecoderLaws}
 use Rattle.bh_stream.proofs.Moving.{items-append}
-use Rattle.bh_reading.specs.Readings.{Counted, rest, within_limit, room, lines_in, kind_behind, count, IsInput, Moved, IsReady}
+use Rattle.bh_reading.specs.Readings.{Counted, rest, within_limit, room, lines_in, kind_behind, Moved, IsReady}
 use Rattle.bh_reading.specs.ContentLaws.{content_of_rest}
 
 pub lines-append : (i j : List Item) → lines_in (i ++ j) ≡ lines_in i + lines_in j

@@ -1,5 +1,5 @@
 -- The decoder of a call, with what is counted for the summary, as the loop sees it.
-use Rattle.std.specs.Prelude.{ℕ, ◌≡◌, ◌≤◌, ◌+◌, ◌-◌, ◌^◌, min, Option, Some, None, List, [], ◌∷◌, ◌++◌, length}
+use Rattle.std.specs.Prelude.{ℕ, ◌≡◌, ◌≤◌, ◌+◌, ◌-◌, ◌^◌, min, Option, Some, None, List, [], ◌∷◌, length}
 use Rattle.bh_spec.specs.declared.Kind.{Kind}
 use Rattle.bh_spec.specs.declared.Omitted.{Omitted}
 use Rattle.bh_spec.specs.declared.Refusal.{Refusal}
@@ -9,7 +9,7 @@ use Rattle.bh_spec.specs.Messages.{Field}
 use Rattle.bh_spec.specs.Texts.{Text}
 use Rattle.bh_spec.specs.Items.{Item, interim_response, head, content_byte, trailer_section, ending, Head}
 use Rattle.bh_spec.specs.Readers.{Moves}
-use Rattle.bh_push.specs.Decoders.{At, Rest as rest_at}
+use Rattle.bh_push.specs.Decoders.{Rest as rest_at}
 use Rattle.bh_push.specs.Pushes.{start_view, RefusesFirst, MissesAs}
 use Rattle.bh_push.specs.Hands.{Held, kind_of_head}
 use Rattle.bh_stream.specs.Decoding.{content_items}
@@ -26,6 +26,10 @@ pub record Counted : Type 0 where
 -- what completes the message
 abbrev pub rest : Counted → List Item → Text → Type 0
 rest v q t = rest_at v.held.decoder.limits v.held.decoder.at q t
+
+-- the limits that it keeps
+abbrev pub limits : Counted → Bounds
+limits v = v.held.decoder.limits
 
 -- how many bytes are within the limit of the input, behind those that were taken
 abbrev pub within_limit : Option ℕ → ℕ → ℕ

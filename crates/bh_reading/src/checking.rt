@@ -18,6 +18,7 @@ pub fn check<P: Port>(
     requires size { (0 < length buffer.old) × (length buffer.old ≤ 8192) }
     ensures call { CheckCall reading.old.held.decoder.limits P.read_step P.write_step port.old result port.new }
     ensures buffer { length buffer.new ≡ length buffer.old }
+    ensures limits { reading.new.held.decoder.limits ≡ reading.old.held.decoder.limits }
 {
     reading.begin();
     let mut job = Nothing;

@@ -83,7 +83,7 @@ fn lines_shown(decoder: &Decoder) -> usize
 }
 
 impl Decode for Reading {
-    ghost use Rattle.bh_reading.specs.Readings.{rest, room, Moved, IsReady, shows, refuses, tells, misses};
+    ghost use Rattle.bh_reading.specs.Readings.{rest, limits, room, Moved, IsReady, shows, refuses, tells, misses};
     ghost use Rattle.bh_reading.specs.ReadingLaws.{reading_laws};
 
     type Summary = Summary;
@@ -91,6 +91,8 @@ impl Decode for Reading {
     type Refusal = Refusal;
 
     ghost rest = { rest };
+
+    ghost limits = { limits };
 
     ghost room = { room };
 

@@ -1,15 +1,14 @@
 -- How a call ended, from what its loop did.
-use Rattle.std.proofs.Common.{◌≡◌, ◌≤◌, ◌+◌, ◌⊎◌, ℕ, Bool, true, List, [], ◌∷◌, ◌++◌, length, Option, Some, None, IfSome, refl, sym, ◌∙◌, ap, subst, arith, append_assoc, inl, inr}
+use Rattle.std.proofs.Common.{◌≡◌, ◌≤◌, ◌+◌, ◌⊎◌, ℕ, Bool, true, List, [], ◌++◌, length, Option, Some, None, IfSome, sym, ◌∙◌, ap, subst, arith, append_assoc, inl, inr}
 use Rattle.bh_spec.specs.declared.Omitted.{Omitted}
 use Rattle.bh_spec.specs.declared.Summary.{Summary}
 use Rattle.bh_spec.specs.declared.Refusal.{Refusal}
 use Rattle.bh_spec.specs.declared.Refusal.TheVariants.{Dead, Limit, Ended, TooLong}
 use Rattle.bh_spec.specs.Bounds.{Bounds}
 use Rattle.bh_spec.specs.Messages.{Message}
-use Rattle.bh_spec.specs.Texts.{Text, bytes_of}
-use Rattle.bh_spec.specs.Answers.{whole, refused, IsAnswer}
-use Rattle.bh_spec.specs.Items.{Item, ending, items}
-use Rattle.bh_base.specs.Steps.{Step, taken, given, met, reads, IsQuiet}
+use Rattle.bh_spec.specs.Answers.{refused, IsAnswer}
+use Rattle.bh_spec.specs.Items.{Item}
+use Rattle.bh_base.specs.Steps.{Step, taken, met, reads}
 use Rattle.bh_stream.specs.Outputs.{written}
 use Rattle.bh_stream.specs.Logs.{ReadsTo}
 use Rattle.bh_stream.specs.Decoding.{Rest, Moving, DecoderLaws}

@@ -1,5 +1,5 @@
 -- What a job that writes nothing does.
-use Rattle.std.proofs.Common.{◌≡◌, ℕ, Bool, false, List, [], Ok, refl, arith}
+use Rattle.std.proofs.Common.{false, List, [], Ok, refl, arith}
 use Rattle.bh_base.specs.Steps.{Step, none}
 use Rattle.bh_spec.specs.Items.{Item}
 use Rattle.bh_stream.specs.Jobs.{Sends, SendsRest}

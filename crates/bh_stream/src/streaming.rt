@@ -34,6 +34,7 @@ pub fn stream<P: Port, D: Decode, J: Job<P, D>>(
     ensures streams { Streams D.rest D.room D.moves D.refuses D.tells D.misses J.writes J.most P.read_step P.write_step
         decoder.old (J.owed job.old) port.old result port.new }
     ensures buffer { length buffer.new ≡ length buffer.old }
+    ensures limits { D.limits decoder.new ≡ D.limits decoder.old }
 {
     loop {
         match port.read(buffer) {

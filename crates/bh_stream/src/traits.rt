@@ -1,6 +1,7 @@
 //! A decoder and a job, as the loop sees them.
 ghost use Rattle.std.specs.Prelude.{◌≡◌, ◌<◌, ◌≤◌, ℕ, Bool, List, [], ◌∷◌, ◌++◌, length, map};
 ghost use Rattle.bh_spec.specs.declared.Omitted.{Omitted};
+ghost use Rattle.bh_spec.specs.Bounds.{Bounds};
 ghost use Rattle.bh_spec.specs.Texts.{Text};
 ghost use Rattle.bh_spec.specs.Items.{Item, content_byte, ending};
 ghost use Rattle.bh_stream.specs.Decoding.{DecoderLaws, IsPushed, IsFinished};
@@ -43,6 +44,9 @@ pub trait Decode {
     /// What completes the message, with the items that are still to come.
     ghost rest: { Self → List Item → Text → Type 0 };
 
+    /// The limits that it keeps.
+    ghost limits: { Self → Bounds };
+
     /// How many bytes it still takes, at most.
     ghost room: { Self → ℕ };
 
@@ -67,12 +71,14 @@ pub trait Decode {
     /// Decodes some bytes of the piece.
     fn push<'p>(&mut self, piece: &'p [u8]) -> Pushed<'p, Self::Refusal>
         requires ready { ready self.old }
-        ensures { IsPushed moves shows refuses self.old piece.now result self.new };
+        ensures pushed { IsPushed moves shows refuses self.old piece.now result self.new }
+        ensures limits { limits self.new ≡ limits self.old };
 
     /// Is what was pushed a message?
     fn finish(&mut self) -> Result<Self::Summary, Self::Refusal>
         requires ready { ready self.old }
-        ensures { IsFinished rest tells misses self.old result };
+        ensures finished { IsFinished rest tells misses self.old result }
+        ensures limits { limits self.new ≡ limits self.old };
 
     /// What is known of the states.
     ghost laws: { DecoderLaws rest room moves ready };

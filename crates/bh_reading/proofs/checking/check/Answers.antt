@@ -1,4 +1,3 @@
-use Rattle.std.proofs.Common.{◌≡◌, ap, subst, sym}
 use Rattle.bh_reading.proofs.AtStart.{ready_at_start}
 use Rattle.bh_reading.proofs.Checked.{checked}
 use Rattle.bh_reading.proofs.checking.check.Goals as goal
