@@ -109,7 +109,7 @@ fn list_content(alloc: Global, length: usize, piece: usize) -> Result<Vec<u8>, F
     let content = vec![in alloc; b'a'; length]?;
     let mut writer = ShowWriter::begin(Kind::Response);
     writer.response_head(&mut sink, 200, &none)?;
-    for bytes in content.chunks(piece) {
+    for bytes in content.chunks(piece.max(1)) {
         writer.content(&mut sink, bytes)?;
     }
     writer.finish(&mut sink, &none)?;
