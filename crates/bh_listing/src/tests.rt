@@ -1,0 +1,1 @@
+//! Listings over ports in memory.
