@@ -11,7 +11,7 @@ use Rattle.bh_spec.specs.Messages.{Field}
 use Rattle.bh_spec.specs.Listing.{digit, hex, is_quotable, value_text, Line, a_request, a_response, method, scheme, authority, path, interim, status, field, content, trailer, the_end, text_of}
 
 -- the texts up to the first of a byte that they don't have
-until : (stop : ℕ) (x y r s : List ℕ) → AllByRecursion (λ b. b ≢ stop) x → AllByRecursion (λ b. b ≢ stop) y → x ++ (stop ∷ r) ≡ y ++ (stop ∷ s) → (x ≡ y) × (r ≡ s)
+pub until : (stop : ℕ) (x y r s : List ℕ) → AllByRecursion (λ b. b ≢ stop) x → AllByRecursion (λ b. b ≢ stop) y → x ++ (stop ∷ r) ≡ y ++ (stop ∷ s) → (x ≡ y) × (r ≡ s)
 until stop [] [] r s ax ay e = (refl, (cc))
 until stop [] (b ∷ y) r s ax ay e = let same : b ≡ stop = cc in absurd (ay.0 same)
 until stop (a ∷ x) [] r s ax ay e = let same : a ≡ stop = cc in absurd (ax.0 same)

@@ -191,7 +191,7 @@ message_fine m h = onto (start_lines m.start) _ (start_fine m.start h.start)
     (onto (map trailer m.trailers) _ (trailers_fine m.trailers (trailers_named m.trailers h.trailers)) ((tt, literal (codes "end") refl), tt))))
 
 -- ---- fine lines with equal texts are equal
-texts_avoid : (ls : List Line) → AreFine ls → AllByRecursion (Avoids 10) (map text_of ls)
+pub texts_avoid : (ls : List Line) → AreFine ls → AllByRecursion (Avoids 10) (map text_of ls)
 texts_avoid [] all = tt
 texts_avoid (l ∷ ls) all = (all.0.1, texts_avoid ls all.1)
 

@@ -13,7 +13,7 @@ unfolding encode_with
 same_digits [] = refl
 same_digits (b ∷ bytes) = ap (λ (l : List ℕ). digit (b / 16) ∷ digit (b % 16) ∷ l) (same_digits bytes)
 
-two_each : (bytes : List ℕ) → length (hex bytes) ≡ length bytes * 2
+pub two_each : (bytes : List ℕ) → length (hex bytes) ≡ length bytes * 2
 two_each [] = refl
 two_each (b ∷ bytes) = omega (arith, two_each bytes)
 

@@ -6,6 +6,8 @@ mod lines;
 mod reports;
 mod show;
 #[cfg(test)]
+mod show_tests;
+#[cfg(test)]
 mod tests;
 mod trials;
 mod waiting;

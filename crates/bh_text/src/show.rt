@@ -73,6 +73,13 @@ impl ShowWriter {
         }
     }
 
+    /// Whether a call was made.
+    pub fn has_begun(&self) -> bool
+        ensures { result ≡ self.now.begun }
+    {
+        self.begun
+    }
+
     /// Sends the lines of an interim response.
     pub fn interim<S: Sink>(
         &mut self,

@@ -1,0 +1,5 @@
+pub mod Outputs
+pub mod Owing
+pub mod Due
+pub mod Fronts
+pub mod Called

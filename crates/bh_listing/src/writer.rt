@@ -1,0 +1,96 @@
+//! The job of a listing.
+ghost use Rattle.std.specs.Prelude.{◌≡◌, IfOk};
+ghost use Rattle.bh_listing.specs.Owed.{at_start};
+
+use crate::sending::{send_head, start};
+use bh_base::{Failed, NoMemory, Sink};
+use bh_model::{Fields, Kind};
+use bh_reading::Reading;
+use bh_stream::{Event, Job};
+use bh_text::ShowWriter;
+use std::alloc::Global;
+use std::marker::Model;
+
+/// Writes listings, one after the other, and holds a content line that isn't full.
+#[derive(Drop)]
+pub struct ListingWriter {
+    writer: ShowWriter,
+    /// Was the last line sent?
+    ended: bool,
+    /// A trailer section that is left out.
+    none: Fields,
+}
+
+impl Model for ListingWriter {
+    ghost use Rattle.std.specs.Prelude.{◌≡◌, []};
+    ghost use Rattle.bh_listing.specs.Owed.{Lister};
+
+    ghost Value = { Lister };
+
+    ghost view = { λ w. record { writer = w.writer; ended = w.ended } };
+
+    ghost invariant = { λ w. w.none.lines ≡ [] };
+}
+
+impl ListingWriter {
+    /// A writer before a message, with all the memory that it needs.
+    pub fn new(alloc: Global) -> Result<ListingWriter, NoMemory>
+        ensures { IfOk result (λ writer. writer ≡ at_start) }
+    {
+        let none = Fields::with_room(alloc, 0, 0)?;
+        Ok(ListingWriter {
+            writer: ShowWriter::begin(Kind::Request),
+            ended: false,
+            none,
+        })
+    }
+
+    /// Returns to before a message.
+    pub fn begin(&mut self)
+        ensures { self.new ≡ at_start }
+    {
+        self.writer = ShowWriter::begin(Kind::Request);
+        self.ended = false;
+    }
+}
+
+impl<S: Sink> Job<S, Reading> for ListingWriter {
+    ghost use Rattle.std.specs.Prelude.{true};
+    ghost use Rattle.bh_listing.specs.Owed.{owed, held, takes};
+
+    ghost owed = { owed };
+
+    ghost held = { held };
+
+    ghost most = { 31 };
+
+    ghost writes = { true };
+
+    ghost takes = { takes };
+
+    fn content(&mut self, sink: &mut S, bytes: &[u8]) -> Result<(), Failed> {
+        self.writer.content(sink, bytes)
+    }
+
+    fn event(&mut self, sink: &mut S, decoder: &Reading, event: Event) -> Result<(), Failed> {
+        let shown = decoder.decoder();
+        match event {
+            Event::Interim { status } => {
+                start(&mut self.writer, Kind::Response);
+                self.writer.interim(sink, status, shown.fields())
+            }
+            Event::Head => send_head(&mut self.writer, sink, shown),
+            Event::Trailers => {
+                self.ended = true;
+                self.writer.finish(sink, shown.fields())
+            }
+        }
+    }
+
+    fn finish(&mut self, sink: &mut S) -> Result<(), Failed> {
+        if self.ended {
+            return Ok(());
+        }
+        self.writer.finish(sink, &self.none)
+    }
+}
