@@ -42,3 +42,7 @@ pub record IsAdding (to : FieldsView) (left all : List Field) : Type 0 where
   pub ended : to.making ≡ None
   pub spare : lines_room left ≤ to.spare
   pub free : length left ≤ to.free
+
+-- no line is there, and there is room for these
+abbrev pub IsRoomFor : FieldsView → List Field → Type 0
+IsRoomFor to all = IsAdding to all all

@@ -3,7 +3,7 @@ ghost use Rattle.std.specs.Prelude.{◌≡◌, ◌≤◌, ◌+◌, ◌++◌, ◌
 ghost use Rattle.bh_spec.specs.Bytes.{lower};
 ghost use Rattle.bh_model.specs.Lines.{lines_room, making_room, making_count};
 ghost use Rattle.h1_spec.specs.Cleaning.{values_of, is_among, connection_names, kept_names, without, crumbs as crumbs_of, cookie as cookie_name, clean as cleaned_of, clean_trailers as trailers_of};
-ghost use Rattle.h1_rules.specs.Own.{dropped_names, dropped_trailers, is_cookie as is_cookie_name, with_crumb, is_dropped as is_dropped_of, own_lines, IsAdding};
+ghost use Rattle.h1_rules.specs.Own.{dropped_names, dropped_trailers, is_cookie as is_cookie_name, with_crumb, is_dropped as is_dropped_of, own_lines, IsRoomFor};
 
 use crate::hops::Hops;
 use crate::lines::value_from;
@@ -87,7 +87,7 @@ fn add_own(
     crumbs: &[u8],
     cleaned: &mut Fields,
 ) -> Result<(), NoMemory>
-    requires { IsAdding cleaned.old (own_lines (dropped_names hops.now drop_host) crumbs.now false fields.now.lines) (own_lines (dropped_names hops.now drop_host) crumbs.now false fields.now.lines) }
+    requires { IsRoomFor cleaned.old (own_lines (dropped_names hops.now drop_host) crumbs.now false fields.now.lines) }
     ensures lines { OnOk result (cleaned.new.lines ≡ own_lines (dropped_names hops.now drop_host) crumbs.now false fields.now.lines) }
     ensures ended { OnOk result (cleaned.new.making ≡ None) }
 {
@@ -105,7 +105,7 @@ fn add_own(
 
 /// Adds the lines of a trailer section that stay.
 fn add_trailers(fields: &Fields, hops: &Hops, cleaned: &mut Fields) -> Result<(), NoMemory>
-    requires { IsAdding cleaned.old (without (dropped_trailers hops.now) fields.now.lines) (without (dropped_trailers hops.now) fields.now.lines) }
+    requires { IsRoomFor cleaned.old (without (dropped_trailers hops.now) fields.now.lines) }
     ensures lines { OnOk result (cleaned.new.lines ≡ without (dropped_trailers hops.now) fields.now.lines) }
     ensures ended { OnOk result (cleaned.new.making ≡ None) }
 {

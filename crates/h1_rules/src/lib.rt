@@ -6,6 +6,8 @@ mod framing;
 mod hops;
 mod lines;
 mod targets;
+#[cfg(test)]
+mod tests;
 
 pub use cleaning::{clean, clean_trailers};
 pub use framing::framing_of;

@@ -1,17 +1,17 @@
 //! The lines of one name.
-ghost use Rattle.std.specs.Prelude.{◌≡◌, ◌<◌, ◌≤◌, ◌∷◌, [], drop, length, IfSome, IfNone};
+ghost use Rattle.std.specs.Prelude.{◌≡◌, ◌<◌, ◌≤◌, ◌∷◌, [], length, IfSome, IfNone};
 ghost use Rattle.h1_spec.specs.Cleaning.{values_of};
-ghost use Rattle.h1_rules.specs.Values.{IsOnly};
+ghost use Rattle.h1_rules.specs.Values.{IsOnly, values_from};
 
 use bh_model::Fields;
 
 /// The value of the first line of a name from a place on, and the place behind it.
 pub fn value_from<'a>(fields: &'a Fields, name: &[u8], from: usize) -> Option<(&'a [u8], usize)>
     requires { from ≤ length fields.now.lines }
-    ensures found { IfSome result (λ p. values_of name.now (drop from fields.now.lines) ≡ p.0.now ∷ values_of name.now (drop p.1 fields.now.lines)) }
+    ensures found { IfSome result (λ p. values_from name.now fields.now.lines from ≡ p.0.now ∷ values_from name.now fields.now.lines p.1) }
     ensures later { IfSome result (λ p. from < p.1) }
     ensures within { IfSome result (λ p. p.1 ≤ length fields.now.lines) }
-    ensures none { IfNone result (values_of name.now (drop from fields.now.lines) ≡ []) }
+    ensures none { IfNone result (values_from name.now fields.now.lines from ≡ []) }
 {
     for i in from..fields.len() {
         let (own, value) = fields.line(i);
