@@ -1,9 +1,9 @@
-pub mod Inputs
-pub mod Counting
-pub mod Beyond
 pub mod Writable
-pub mod RunLemmas
-pub mod Completing
+pub mod Telling
+pub mod LogTelling
+pub mod Lending
+pub mod Sources
+pub mod Calls
+pub mod Exactly
 pub mod Equal
-mod Wider
 pub mod Back

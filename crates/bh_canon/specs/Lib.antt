@@ -1,5 +1,6 @@
-pub mod Gathering
 pub mod Buffers
+pub mod Lending
 pub mod Ends
-pub mod Deciding
+pub mod Telling
+pub mod Calls
 pub mod Laws

@@ -1,109 +1,145 @@
-//! The engine of `canon`.
+//! The engine.
 ghost use Rattle.std.specs.Prelude.{◌≡◌, IfOk};
-ghost use Rattle.bh_base.specs.Steps.{Either, Meanings, Rose};
+ghost use Rattle.bh_spec.specs.Canonical.{canon};
+ghost use Rattle.bh_spec.specs.Listing.{show};
+ghost use Rattle.bh_spec.specs.Viable.{IsMessageText};
+ghost use Rattle.bh_base.specs.Steps.{Meanings, Rose};
 ghost use Rattle.bh_model.specs.Ranges.{AreLimits};
-ghost use Rattle.bh_canon.specs.Ends.{CanonRun, IsTold, IsComplete};
-ghost use Rattle.bh_canon.specs.Buffers.{IsBuffer};
+ghost use Rattle.bh_stream.specs.Logs.{HasBody};
+ghost use Rattle.bh_listing.specs.Shown.{Shown};
+ghost use Rattle.bh_canon.specs.Calls.{CanonCall, ShowCall, SourceCheck};
+ghost use Rattle.bh_canon.specs.Ends.{checked, ended};
+ghost use Rattle.bh_canon.specs.Telling.{IsTold, IsComplete, IsLogged, KeepsLog, SourceTold, SourceCompletes};
 
-use crate::deciding::decide;
-use crate::gathering::{GatherError, gather};
-use bh_base::{NoMemory, Port};
-use bh_decode::ReadError;
-use bh_encode::{WriteFault, write_canonical};
+use crate::lent::Lent;
+use bh_base::{NoMemory, Port, Source};
+use bh_canonical::{CanonWriter, canonical};
+use bh_listing::{ListingWriter, listed};
 use bh_model::{Limits, Refusal, Summary};
+use bh_reading::{Reading, check};
+use bh_stream::End;
 use std::alloc::Global;
 use std::marker::Model;
 
 /// The bytes that one read asks for, at most.
 const READ: usize = 8192;
 
-/// How a call of `canon` ended.
+/// How a call that writes ended.
 #[derive(Clone, Copy, Debug, PartialEq, Eq)]
 pub enum CanonEnd {
-    /// The input was one message within the limits and was read to its end, and its canonical text was written.
+    /// The input was one message within the limits and was read to its end, and all of its output was written.
     Done(Summary),
-    /// The input is refused; nothing was written.
+    /// The input is refused. What was written begins the output of every message that goes on behind the bytes before the refused
+    /// one.
     Refused(Refusal),
-    /// A read failed; nothing was written.
+    /// A read failed.
     ReadFault,
-    /// A write failed; none, some or all of the canonical text was written, from its front.
+    /// A write failed.
     WriteFault,
-    /// Memory ran out; nothing was written.
-    NoMemory,
 }
 
-/// Makes a message canonical, by its limits. It is seen as these; each call begins anew.
+/// How a check ended.
+#[derive(Clone, Copy, Debug, PartialEq, Eq)]
+pub enum CheckEnd {
+    /// The input was one message within the limits, and was read to its end.
+    Done(Summary),
+    /// The input is refused.
+    Refused(Refusal),
+    /// A read failed.
+    ReadFault,
+}
+
+/// Reads messages from streams, by its limits. It is seen as these; each call begins anew.
 #[derive(Drop)]
 pub struct Engine {
-    limits: Limits,
+    reading: Reading,
+    canonical: CanonWriter,
+    listing: ListingWriter,
     buffer: Vec<u8>,
 }
 
 impl Model for Engine {
     ghost use Rattle.bh_canon.specs.Buffers.{IsBuffer};
+    ghost use Rattle.bh_model.specs.Ranges.{AreLimits};
     ghost use Rattle.bh_spec.specs.Bounds.{Bounds};
 
     ghost Value = { Bounds };
 
-    ghost view = { λ e. e.limits };
+    ghost view = { λ e. e.reading.held.decoder.limits };
 
-    ghost invariant = { λ e. IsBuffer e.buffer.items };
+    ghost invariant = { λ e. record {
+      buffer : IsBuffer e.buffer.items;
+      limits : AreLimits e.reading.held.decoder.limits;
+    } };
 }
 
-/// Reads the port to its end, or until it has taken one byte more than the limit allows, decides, and then writes.
-fn answer<P: Port>(alloc: Global, port: &mut P, limits: &Limits, buffer: &mut [u8]) -> CanonEnd
-    requires { IsBuffer buffer.old }
-    ensures limits { AreLimits limits.now }
-    ensures run { CanonRun limits.now (Either P.read_step P.write_step) port.old result port.new }
+/// The end of a call that writes.
+fn canon_end(end: End<Summary, Refusal>) -> CanonEnd
+    ensures { ended result ≡ end }
 {
-    match gather(alloc, port, limits.input() as usize, buffer) {
-        Ok(bytes) => match decide(alloc, &bytes, limits) {
-            Ok(accepted) => match write_canonical(port, &accepted.message) {
-                Ok(()) => CanonEnd::Done(accepted.summary),
-                Err(WriteFault) => CanonEnd::WriteFault,
-            },
-            Err(ReadError::Refused(refusal)) => CanonEnd::Refused(refusal),
-            Err(ReadError::NoMemory) => CanonEnd::NoMemory,
-        },
-        Err(GatherError::ReadFault) => CanonEnd::ReadFault,
-        Err(GatherError::NoMemory) => CanonEnd::NoMemory,
+    match end {
+        End::Done(summary) => CanonEnd::Done(summary),
+        End::Refused(refusal) => CanonEnd::Refused(refusal),
+        End::ReadFault => CanonEnd::ReadFault,
+        End::WriteFault => CanonEnd::WriteFault,
+    }
+}
+
+/// The end of a check, which writes nothing.
+fn check_end(end: End<Summary, Refusal>) -> CheckEnd
+    requires { end ≡ End.WriteFault → ⊥ }
+    ensures { checked result ≡ end }
+{
+    match end {
+        End::Done(summary) => CheckEnd::Done(summary),
+        End::Refused(refusal) => CheckEnd::Refused(refusal),
+        End::ReadFault | End::WriteFault => CheckEnd::ReadFault,
     }
 }
 
 impl Engine {
-    /// An engine with these limits, and the memory for its reads.
+    /// An engine with these limits, and all the memory that its calls need.
     pub fn new(alloc: Global, limits: &Limits) -> Result<Engine, NoMemory>
         ensures { IfOk result (λ engine. engine ≡ limits.now) }
     {
+        // Limits are in their ranges.
+        let part = limits.part();
+        prove!(part >= 5);
+        let reading = Reading::new(alloc, limits)?;
+        let canonical = CanonWriter::new(alloc)?;
+        let listing = ListingWriter::new(alloc)?;
         let buffer = vec![in alloc; 0; READ]?;
         Ok(Engine {
-            limits: *limits,
+            reading,
+            canonical,
+            listing,
             buffer,
         })
     }
 
-    /// Reads one message from `port` and writes its canonical text to it. It reads to the end, or until it has taken one byte
-    /// more than the limit of the input allows, decides, and then writes. The engine is ready for a new call after every end.
-    pub fn canon<P: Port>(&mut self, alloc: Global, port: &mut P) -> CanonEnd
+    /// Reads one message from the port and writes its canonical text to it, each chunk as soon as it is whole. It stops in the read that
+    /// shows a refusal, takes no memory, and is ready for a new call after every end.
+    pub fn canon<P: Port>(&mut self, port: &mut P) -> CanonEnd
         ensures ready { self.new ≡ self.old }
         ensures limits { AreLimits self.old }
 
-        // What the port gave and got, by the bytes of its calls, and by what it tells of them.
-        ensures chain { CanonRun self.old (Either P.read_step P.write_step) port.old result port.new }
+        // What the port gave and got, by the bytes of its calls, by what it tells of them, and by its log.
+        ensures call { CanonCall self.old P.read_step P.write_step port.old (ended result) port.new }
         ensures told { let means : Meanings P = record {
           left = P.left;
           sent = P.sent;
           read_faults = P.read_faults;
           write_faults = P.write_faults;
         } in
-            IsTold self.old means port.old result port.new }
+            IsTold self.old canon means port.old (ended result) port.new }
         ensures complete { let means : Meanings P = record {
           left = P.left;
           sent = P.sent;
           read_faults = P.read_faults;
           write_faults = P.write_faults;
         } in
-            IsComplete self.old means port.old result port.new }
+            IsComplete self.old means port.old (ended result) port.new }
+        ensures log { IsLogged (KeepsLog self.old canon (HasBody (IsMessageText self.old)) 16383) (P.log port.old) (P.log port.new) }
 
         // The faults.
         ensures read_fault { result ≡ CanonEnd.ReadFault → Rose (P.read_faults port.old) (P.read_faults port.new) }
@@ -111,6 +147,55 @@ impl Engine {
         ensures quiet_reads { (result ≡ CanonEnd.ReadFault → ⊥) → P.read_faults port.new ≡ P.read_faults port.old }
         ensures quiet_writes { (result ≡ CanonEnd.WriteFault → ⊥) → P.write_faults port.new ≡ P.write_faults port.old }
     {
-        answer(alloc, port, &self.limits, &mut self.buffer)
+        let reading = &mut self.reading;
+        canon_end(canonical(port, reading, &mut self.canonical, &mut self.buffer))
+    }
+
+    /// Reads one message from the port and writes its listing to it, each line as soon as it is whole. Else it is as `canon`.
+    pub fn show<P: Port>(&mut self, port: &mut P) -> CanonEnd
+        ensures ready { self.new ≡ self.old }
+        ensures limits { AreLimits self.old }
+
+        // What the port gave and got, by the bytes of its calls, by what it tells of them, and by its log.
+        ensures call { ShowCall self.old P.read_step P.write_step port.old (ended result) port.new }
+        ensures told { let means : Meanings P = record {
+          left = P.left;
+          sent = P.sent;
+          read_faults = P.read_faults;
+          write_faults = P.write_faults;
+        } in
+            IsTold self.old show means port.old (ended result) port.new }
+        ensures complete { let means : Meanings P = record {
+          left = P.left;
+          sent = P.sent;
+          read_faults = P.read_faults;
+          write_faults = P.write_faults;
+        } in
+            IsComplete self.old means port.old (ended result) port.new }
+        ensures log { IsLogged (KeepsLog self.old show Shown 8223) (P.log port.old) (P.log port.new) }
+
+        // The faults.
+        ensures read_fault { result ≡ CanonEnd.ReadFault → Rose (P.read_faults port.old) (P.read_faults port.new) }
+        ensures write_fault { result ≡ CanonEnd.WriteFault → Rose (P.write_faults port.old) (P.write_faults port.new) }
+        ensures quiet_reads { (result ≡ CanonEnd.ReadFault → ⊥) → P.read_faults port.new ≡ P.read_faults port.old }
+        ensures quiet_writes { (result ≡ CanonEnd.WriteFault → ⊥) → P.write_faults port.new ≡ P.write_faults port.old }
+    {
+        let reading = &mut self.reading;
+        canon_end(listed(port, reading, &mut self.listing, &mut self.buffer))
+    }
+
+    /// Reads one message from the source, and does nothing else. Else it is as `canon`.
+    pub fn check<S: Source>(&mut self, source: &mut S) -> CheckEnd
+        ensures ready { self.new ≡ self.old }
+        ensures limits { AreLimits self.old }
+        ensures call { SourceCheck self.old S.read_step source.old (checked result) source.new }
+        ensures told { SourceTold self.old (checked result) (S.left source.old) (S.left source.new) }
+        ensures complete { SourceCompletes self.old (checked result) (S.left source.old)
+            (S.read_faults source.old) (S.read_faults source.new) }
+        ensures read_fault { result ≡ CheckEnd.ReadFault → Rose (S.read_faults source.old) (S.read_faults source.new) }
+        ensures quiet_reads { (result ≡ CheckEnd.ReadFault → ⊥) → S.read_faults source.new ≡ S.read_faults source.old }
+    {
+        let mut lent = Lent::new(source);
+        check_end(check(&mut lent, &mut self.reading, &mut self.buffer))
     }
 }

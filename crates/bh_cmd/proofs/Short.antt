@@ -82,7 +82,7 @@ pieces_few (suc turns) (byte ∷ rest) =
 body_few : (content : List ℕ) → length (body Indeterminate content) ≤ 9 * length content + 8
 body_few content = omega (arith, pieces_few (length content) content, int_few 0, length-append (flat_map string (cut 8192 content)) (int 0))
 
-canon_few : (m : Message) → Fits default_bounds m → length m.content ≤ 2 ^ 24 → length (canon m) < 2 ^ 32
+canon_few : (m : Message) → Fits default_bounds m → length m.content ≤ 2 ^ 40 → length (canon m) < 2 ^ 48
 canon_few m h short =
     let front = int (framing (kind_of m.start) Indeterminate) in
     let head = start Indeterminate m.start in
@@ -103,12 +103,12 @@ canon_few m h short =
       length-append content trailers,
     )
 
-pub text_few : (bytes : List ℕ) (s : Summary) (text : List ℕ) → IsCanon default_bounds bytes s text → length text < 2 ^ 32
+pub text_few : (bytes : List ℕ) (s : Summary) (text : List ℕ) → IsCanon default_bounds bytes s text → length text < 2 ^ 48
 text_few bytes s text h =
     let read = h.answer.1 in
     let fit = fits_where_spelled default_bounds h.message h.omitted h.padding read.text read.spelled in
     let long = content_long default_bounds h.message h.omitted h.padding bytes read in
-    omega (arith, ap length h.canonical, canon_few h.message fit (omega (arith, long, h.answer.0)))
+    omega (arith, ap length h.text_is, canon_few h.message fit (omega (arith, long, h.answer.0)))
 
-pub sum_few : (bytes : List ℕ) → AreBytes bytes → length bytes < 2 ^ 32 → sum bytes < 2 ^ 64
+pub sum_few : (bytes : List ℕ) → AreBytes bytes → length bytes < 2 ^ 48 → sum bytes < 2 ^ 64
 sum_few bytes are few = omega (arith, few, sum_by-le (λ (x : ℕ). x) 255 bytes (λ k d within. omega (arith, are k d within)))

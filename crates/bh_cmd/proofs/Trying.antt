@@ -13,8 +13,12 @@ use Rattle.bh_base.specs.SureLaws.{added_is}
 use Rattle.bh_base.proofs.Chains.{write_chain, writes_leave, chain_facts}
 use Rattle.bh_text.specs.Reports.{trial_line}
 use Rattle.bh_canon.specs.declared.engine.CanonEnd.{CanonEnd}
-use Rattle.bh_canon.specs.declared.engine.CanonEnd.TheVariants as ends
-use Rattle.bh_canon.specs.Ends.{IsCanon, CanonRun, IsTold, IsComplete, end_of}
+use Rattle.bh_spec.specs.Canonical.{canon}
+use Rattle.bh_stream.specs.declared.streaming.End.{End}
+use Rattle.bh_stream.specs.declared.streaming.End.TheVariants as end
+use Rattle.bh_canon.specs.Ends.{IsCanon, ended, end_of}
+use Rattle.bh_canon.specs.Calls.{CanonCall}
+use Rattle.bh_canon.specs.Telling.{IsTold, IsComplete}
 use Rattle.bh_cmd.specs.declared.exits.Exit.{Exit}
 use Rattle.bh_cmd.specs.declared.exits.Exit.TheVariants.{Done, Refused, Usage, ReadFault, WriteFault, NoMemory, DoorFault, ShelfFault}
 use Rattle.bh_cmd.specs.Exits.{exit_of}
@@ -30,49 +34,54 @@ trial_means = record { left = trial_left; sent = untold_bytes; read_faults = no_
 
 -- What the engine says of its call, when its port counted what was written.
 module _ (n : ℕ) (w : TrialView) where
-  pub engine_refused : (refusal : Refusal) → IsTold default_bounds trial_means (new_trial n) (ends.Refused refusal) w → IsAnswer default_bounds (trial n) (refused refusal)
+  pub engine_refused : (refusal : Refusal) → IsTold default_bounds canon trial_means (new_trial n) (end.Refused refusal) w → IsAnswer default_bounds (trial n) (refused refusal)
   engine_refused refusal told = told.0
 
-  pub engine_completes : (end : CanonEnd) → IsComplete default_bounds trial_means (new_trial n) end w
-      → (answer : Answer) → IsAnswer default_bounds (trial n) answer → (end ≡ end_of answer (length (trial n))) ⊎ (end ≡ ends.NoMemory)
-  engine_completes end complete answer is = complete answer is (λ r. omega (arith, r)) (λ r. omega (arith, r))
+  pub engine_completes : (r : End Summary Refusal) → IsComplete default_bounds trial_means (new_trial n) r w
+      → (answer : Answer) → IsAnswer default_bounds (trial n) answer → r ≡ end_of answer (length (trial n))
+  engine_completes r complete answer is = complete answer is (λ r. omega (arith, r)) (λ r. omega (arith, r))
 
-  pub engine_done : (summary : Summary) → CanonRun default_bounds (Either TrialRead TrialWrite) (new_trial n) (ends.Done summary) w
+  pub engine_done : (summary : Summary) → CanonCall default_bounds TrialRead TrialWrite (new_trial n) (end.Done summary) w
       → IsTrialLine n summary (trial_line (record { content = n; bytes_in = summary.bytes; bytes_out = w.written; sum = w.sum }))
   engine_done summary run =
-      let facts = chain_facts trial_read_law trial_read_leaves trial_write_law trial_write_leaves run.chain in
-      let rest : w.left ≡ [] = trial_at_end w (facts.end run.outcome.0) in
-      let all : taken run.steps ≡ trial n = sym (facts.comes ∙ ap (λ (l : List ℕ). taken run.steps ++ l) rest ∙ append-nil (taken run.steps)) in
-      let canonical : IsCanon default_bounds (trial n) summary (given run.steps) = subst (λ (bytes : List ℕ). IsCanon default_bounds bytes summary (given run.steps)) all run.outcome.1 in
-      let counted = trial_counted run.chain (omega arith) in
+      let steps = run.wrote.steps in
+      let call = run.wrote.call in
+      let whole = call.ends.1 in
+      let facts = chain_facts trial_read_law trial_read_leaves trial_write_law trial_write_leaves call.chain in
+      let rest : w.left ≡ [] = trial_at_end w (facts.end whole.end) in
+      let all : taken steps ≡ trial n = sym (facts.comes ∙ ap (λ (l : List ℕ). taken steps ++ l) rest ∙ append-nil (taken steps)) in
+      let canonical : IsCanon default_bounds (trial n) summary (given steps) = subst (λ (bytes : List ℕ). IsCanon default_bounds bytes summary (given steps)) all (record {
+        message = whole.message;
+        omitted = whole.omitted;
+        padding = whole.padding;
+        answer = whole.answer;
+        summary_is = whole.summary_is;
+        text_is = whole.gave;
+      }) in
+      let counted = trial_counted call.chain (omega arith) in
       let bytes : summary.bytes ≡ length (trial n) = ap (λ (s : Summary). s.bytes) canonical.summary_is in
-      let few = text_few (trial n) summary (given run.steps) canonical in
-      let written : w.written ≡ length (given run.steps) = counted.written ∙ ap (λ (k : ℕ). k % 2 ^ 64) (omega arith) ∙ mod-eq_of_lt (omega (arith, few)) in
-      let summed : w.sum ≡ sum (given run.steps) = counted.sum ∙ added_is 0 (given run.steps) (omega arith) ∙ ap (λ (k : ℕ). k % 2 ^ 64) (omega arith)
-      ∙ mod-eq_of_lt (sum_few (given run.steps) counted.bytes few) in
-      record { text = given run.steps; canonical = canonical; is_line = rw (bytes, written, summed) refl }
+      let few = text_few (trial n) summary (given steps) canonical in
+      let written : w.written ≡ length (given steps) = counted.written ∙ ap (λ (k : ℕ). k % 2 ^ 64) (omega arith) ∙ mod-eq_of_lt (omega (arith, few)) in
+      let summed : w.sum ≡ sum (given steps) = counted.sum ∙ added_is 0 (given steps) (omega arith) ∙ ap (λ (k : ℕ). k % 2 ^ 64) (omega arith)
+      ∙ mod-eq_of_lt (sum_few (given steps) counted.bytes few) in
+      record { text = given steps; canonical = canonical; is_line = rw (bytes, written, summed) refl }
 
 -- The same of the values that a call has.
-module _ (n : ℕ) (L : Bounds) (v w : TrialView) (result end : CanonEnd) (limits : L ≡ default_bounds) (begun : v ≡ new_trial n) (is : result ≡ end) where
-  pub run_of : CanonRun L (Either TrialRead TrialWrite) v result w → CanonRun default_bounds (Either TrialRead TrialWrite) (new_trial n) end w
-  run_of h = subst (λ (x : CanonEnd). CanonRun default_bounds (Either TrialRead TrialWrite) (new_trial n) x w) is
-      (subst (λ (x : TrialView). CanonRun default_bounds (Either TrialRead TrialWrite) x result w) begun (subst (λ (x : Bounds). CanonRun x (Either TrialRead TrialWrite) v result w) limits h))
+module _ (n : ℕ) (L : Bounds) (v w : TrialView) (result : CanonEnd) (r : End Summary Refusal) (limits : L ≡ default_bounds) (begun : v ≡ new_trial n) (is : ended result ≡ r) where
+  pub run_of : CanonCall L TrialRead TrialWrite v (ended result) w → CanonCall default_bounds TrialRead TrialWrite (new_trial n) r w
+  run_of h = subst (λ (x : End Summary Refusal). CanonCall default_bounds TrialRead TrialWrite (new_trial n) x w) is
+      (subst (λ (x : TrialView). CanonCall default_bounds TrialRead TrialWrite x (ended result) w) begun (subst (λ (x : Bounds). CanonCall x TrialRead TrialWrite v (ended result) w) limits h))
 
-  pub told_of : IsTold L trial_means v result w → IsTold default_bounds trial_means (new_trial n) end w
-  told_of h = subst (λ (x : CanonEnd). IsTold default_bounds trial_means (new_trial n) x w) is
-      (subst (λ (x : TrialView). IsTold default_bounds trial_means x result w) begun (subst (λ (x : Bounds). IsTold x trial_means v result w) limits h))
+  pub told_of : IsTold L canon trial_means v (ended result) w → IsTold default_bounds canon trial_means (new_trial n) r w
+  told_of h = subst (λ (x : End Summary Refusal). IsTold default_bounds canon trial_means (new_trial n) x w) is
+      (subst (λ (x : TrialView). IsTold default_bounds canon trial_means x (ended result) w) begun (subst (λ (x : Bounds). IsTold x canon trial_means v (ended result) w) limits h))
 
-  pub complete_of : IsComplete L trial_means v result w → IsComplete default_bounds trial_means (new_trial n) end w
-  complete_of h = subst (λ (x : CanonEnd). IsComplete default_bounds trial_means (new_trial n) x w) is
-      (subst (λ (x : TrialView). IsComplete default_bounds trial_means x result w) begun (subst (λ (x : Bounds). IsComplete x trial_means v result w) limits h))
+  pub complete_of : IsComplete L trial_means v (ended result) w → IsComplete default_bounds trial_means (new_trial n) r w
+  complete_of h = subst (λ (x : End Summary Refusal). IsComplete default_bounds trial_means (new_trial n) x w) is
+      (subst (λ (x : TrialView). IsComplete default_bounds trial_means x (ended result) w) begun (subst (λ (x : Bounds). IsComplete x trial_means v (ended result) w) limits h))
 
-refusal_completes : (n : ℕ) (refusal : Refusal) → ((answer : Answer) → IsAnswer default_bounds (trial n) answer → (ends.Refused refusal ≡ end_of answer (length (trial n))) ⊎ (ends.Refused refusal ≡ ends.NoMemory))
-    → (answer : Answer) → IsAnswer default_bounds (trial n) answer → (Refused (Binary refusal) ≡ exit_of (end_of answer (length (trial n)))) ⊎ (Refused (Binary refusal) ≡ NoMemory)
-refusal_completes n refusal complete answer is = from (complete answer is)
-  where
-    from : (ends.Refused refusal ≡ end_of answer (length (trial n))) ⊎ (ends.Refused refusal ≡ ends.NoMemory) → (Refused (Binary refusal) ≡ exit_of (end_of answer (length (trial n)))) ⊎ (Refused (Binary refusal) ≡ NoMemory)
-    from (inl e) = inl (ap exit_of e)
-    from (inr e) = inr (ap exit_of e)
+abbrev EndsWith : ℕ → End Summary Refusal → Type 0
+EndsWith n r = (answer : Answer) → IsAnswer default_bounds (trial n) answer → r ≡ end_of answer (length (trial n))
 
 module _ {S : Type 0} {write : S → Step → S → Type 0} {port : Meanings S} where
   pub not_tried : {s : S} (n : ℕ) → TrialExitFacts n write port s NoMemory s
@@ -85,11 +94,11 @@ module _ {S : Type 0} {write : S → Step → S → Type 0} {port : Meanings S} 
   }
 
   pub trial_refused : {s : S} (n : ℕ) (refusal : Refusal) → IsAnswer default_bounds (trial n) (refused refusal)
-      → ((answer : Answer) → IsAnswer default_bounds (trial n) answer → (ends.Refused refusal ≡ end_of answer (length (trial n))) ⊎ (ends.Refused refusal ≡ ends.NoMemory))
+      → EndsWith n (end.Refused refusal)
       → TrialExitFacts n write port s (Refused (Binary refusal)) s
   trial_refused {s = s} n refusal is complete = record {
     run = record { steps = []; chain = none; same_left = refl; told = nothing (port.sent s); outcome = (refl, is) };
-    complete = λ answer is quiet. refusal_completes n refusal complete answer is;
+    complete = λ answer is quiet. inl (ap exit_of (complete answer is));
     write_fault = λ e. absurd cc;
     quiet_reads = refl;
     quiet_writes = λ no. refl;
@@ -130,16 +139,9 @@ module _ (n : ℕ) (summary : Summary) (line : List ℕ) where
   good DoorFault steps h other = absurd h
   good ShelfFault steps h other = absurd h
 
-  module _ (complete : (answer : Answer) → IsAnswer default_bounds (trial n) answer → (ends.Done summary ≡ end_of answer (length (trial n))) ⊎ (ends.Done summary ≡ ends.NoMemory)) where
+  module _ (complete : EndsWith n (end.Done summary)) where
     completes : (exit : Exit) (steps : List Step) → Tells exit summary line steps → (before now : ℕ) → (exit ≡ WriteFault → Rose before now) → TrialCompletes n exit before now
-    completes (Done (Some done)) steps h before now rises answer is quiet = from (complete answer is)
-      where
-        same : Done (Some done) ≡ exit_of (ends.Done summary)
-        same = ap (λ (one : Summary). Done (Some one)) h.0
-
-        from : (ends.Done summary ≡ end_of answer (length (trial n))) ⊎ (ends.Done summary ≡ ends.NoMemory) → (Done (Some done) ≡ exit_of (end_of answer (length (trial n)))) ⊎ (Done (Some done) ≡ NoMemory)
-        from (inl e) = inl (same ∙ ap exit_of e)
-        from (inr e) = absurd cc
+    completes (Done (Some done)) steps h before now rises answer is quiet = inl (ap (λ (one : Summary). Done (Some one)) h.0 ∙ ap exit_of (complete answer is))
     completes WriteFault steps h before now rises answer is quiet = absurd (quiet (rises refl))
     completes (Done None) steps h before now rises answer is quiet = absurd h
     completes (Refused cause) steps h before now rises answer is quiet = absurd h
@@ -152,7 +154,7 @@ module _ (n : ℕ) (summary : Summary) (line : List ℕ) where
 module _ {S : Type 0} {write : S → Step → S → Type 0} {left sent : S → Option (List ℕ)} {read_faults write_faults : S → ℕ} {ended : S → Bool} {log : S → Option (List Entry)}
     (law : (s t : S) (x : Step) → write s x t → WriteFacts sent write_faults s x t) (leaves : (s t : S) (x : Step) → write s x t → WriteLeaves left read_faults ended log s x t)
     (n : ℕ) (summary : Summary) (line : List ℕ) (is_line : IsTrialLine n summary line)
-    (complete : (answer : Answer) → IsAnswer default_bounds (trial n) answer → (ends.Done summary ≡ end_of answer (length (trial n))) ⊎ (ends.Done summary ≡ ends.NoMemory)) {s t : S} where
+    (complete : EndsWith n (end.Done summary)) {s t : S} where
   pub trial_told : (exit : Exit) → IsToldLine write summary line s exit t → TrialExitFacts n write (record { left = left; sent = sent; read_faults = read_faults; write_faults = write_faults }) s exit t
   trial_told exit h =
       let facts = write_chain law h.chain in

@@ -7,14 +7,24 @@ use Rattle.bh_spec.specs.declared.Summary.{Summary}
 use Rattle.bh_spec.specs.Bounds.{Bounds, default_bounds}
 use Rattle.bh_spec.specs.Answers.{Answer, refused, IsAnswer}
 use Rattle.bh_model.specs.declared.causes.Cause.TheVariants.{Binary, Http1, Form}
-use Rattle.bh_base.specs.Steps.{Step, Chain, Either, Meanings, Rose, given, IsQuiet, StopsAt, is_bad_write}
+use Rattle.bh_base.specs.Steps.{Step, Chain, Either, Entry, Meanings, Rose, given, IsQuiet, StopsAt, is_bad_write}
+use Rattle.bh_listing.specs.Shown.{Shown}
 use Rattle.bh_text.specs.Reports.{trial_line}
-use Rattle.bh_canon.specs.Ends.{IsCanon, CanonRun, IsTold, IsComplete, end_of}
+use Rattle.bh_spec.specs.declared.Refusal.{Refusal}
+use Rattle.bh_spec.specs.Messages.{Message}
+use Rattle.bh_spec.specs.Canonical.{canon}
+use Rattle.bh_spec.specs.Listing.{show}
+use Rattle.bh_spec.specs.Viable.{IsMessageText}
+use Rattle.bh_stream.specs.Logs.{HasBody}
+use Rattle.bh_stream.specs.declared.streaming.End.{End}
+use Rattle.bh_canon.specs.Ends.{IsCanon, end_of}
+use Rattle.bh_canon.specs.Calls.{CanonCall, ShowCall, SourceCheck}
+use Rattle.bh_canon.specs.Telling.{IsTold, IsComplete, IsLogged, KeepsLog, SourceTold, SourceCompletes}
 use Rattle.bh_words.specs.declared.commands.Command.{Command}
 use Rattle.bh_words.specs.Words.{IsCommand}
 use Rattle.bh_cmd.specs.declared.exits.Exit.{Exit}
 use Rattle.bh_cmd.specs.declared.exits.Exit.TheVariants.{Done, Refused, Usage, ReadFault, WriteFault, NoMemory, DoorFault, ShelfFault}
-use Rattle.bh_words.specs.declared.commands.Command.TheVariants.{Canon, Trial}
+use Rattle.bh_words.specs.declared.commands.Command.TheVariants.{Canon, Check, Show, Trial}
 use Rattle.bh_cmd.specs.Exits.{EndsSo, exit_of}
 use Rattle.bh_cmd.specs.Trials.{trial}
 
@@ -28,6 +38,8 @@ MeanNothing words = (command : Command) → Mean words command → ⊥
 -- the command is one that words can mean
 abbrev pub CanRun : Command → Type 0
 CanRun (Canon L) = Unit {0}
+CanRun (Check L) = Unit {0}
+CanRun (Show L) = Unit {0}
 CanRun (Trial n) = n ≤ 67108864
 
 -- The line went out whole, and no write failed; or a front of it, and the sink's count of faults rose.
@@ -38,16 +50,30 @@ pub record IsPrinted {S : Type 0} (write : S → Step → S → Type 0) (sent : 
   pub told : Appends (sent s) (sent t) (given steps)
   pub all : ((given steps ≡ line) × (faults t ≡ faults s)) ⊎ ((rest : List ℕ) × (line ≡ given steps ++ rest) × Rose (faults s) (faults t))
 
--- What a run of `canon` under these limits did: by the bytes of the port's calls, by what the port tells, and by its counts of faults.
-pub record CanonExitFacts (L : Bounds) {S : Type 0} (step : S → Step → S → Type 0) (port : Meanings S) (s : S) (exit : Exit) (t : S)
-    : Type 0 where
-  pub chain : EndsSo exit (λ end. CanonRun L step s end t)
-  pub told : EndsSo exit (λ end. IsTold L port s end t)
-  pub complete : EndsSo exit (λ end. IsComplete L port s end t)
+-- What a run of a command that writes this output of a message did, under these limits: by the calls of the port, by what it tells, by
+-- its log and by its counts of faults. Where memory ran out, the port is as it was.
+pub record WritingRun (L : Bounds) (output : Message → List ℕ) (Shown : List ℕ → ℕ → Type 0) (most : ℕ) {S : Type 0}
+    (Call : End Summary Refusal → Type 0) (port : Meanings S) (log : S → Option (List Entry)) (s : S) (exit : Exit) (t : S) : Type 0 where
+  pub call : EndsSo exit (t ≡ s) Call
+  pub told : EndsSo exit (t ≡ s) (λ r. IsTold L output port s r t)
+  pub complete : EndsSo exit (t ≡ s) (λ r. IsComplete L port s r t)
+  pub logged : EndsSo exit (t ≡ s) (λ r. IsLogged (KeepsLog L output Shown most) (log s) (log t))
   pub read_fault : exit ≡ ReadFault → Rose (port.read_faults s) (port.read_faults t)
   pub write_fault : exit ≡ WriteFault → Rose (port.write_faults s) (port.write_faults t)
   pub quiet_reads : (exit ≡ ReadFault → ⊥) → port.read_faults t ≡ port.read_faults s
   pub quiet_writes : (exit ≡ WriteFault → ⊥) → port.write_faults t ≡ port.write_faults s
+
+-- What a run of `check` did. Nothing was sent.
+pub record CheckRun (L : Bounds) {S : Type 0} (read : S → Step → S → Type 0) (port : Meanings S) (s : S) (exit : Exit) (t : S)
+    : Type 0 where
+  pub call : EndsSo exit (t ≡ s) (λ r. SourceCheck L read s r t)
+  pub told : EndsSo exit (t ≡ s) (λ r. SourceTold L r (port.left s) (port.left t))
+  pub complete : EndsSo exit (t ≡ s) (λ r. SourceCompletes L r (port.left s) (port.read_faults s) (port.read_faults t))
+  pub silent : port.sent t ≡ port.sent s
+  pub read_fault : exit ≡ ReadFault → Rose (port.read_faults s) (port.read_faults t)
+  pub write_fault : exit ≡ WriteFault → ⊥
+  pub quiet_reads : (exit ≡ ReadFault → ⊥) → port.read_faults t ≡ port.read_faults s
+  pub quiet_writes : port.write_faults t ≡ port.write_faults s
 
 -- The line of a trial whose engine ended with this summary: its four numbers are those of its input and of the canonical text.
 pub record IsTrialLine (n : ℕ) (s : Summary) (line : List ℕ) : Type 0 where
@@ -104,17 +130,21 @@ pub record IsToldLine {S : Type 0} (write : S → Step → S → Type 0) (summar
   pub tells : Tells exit summary line steps
 
 -- What a run of a command did.
-abbrev pub Performs : Command → {S : Type 0} → (S → Step → S → Type 0) → (S → Step → S → Type 0) → Meanings S → S → Exit → S → Type 0
-Performs (Canon L) read write port s exit t = CanonExitFacts L (Either read write) port s exit t
-Performs (Trial n) read write port s exit t = TrialExitFacts n write port s exit t
+abbrev pub Performs : Command → {S : Type 0} → (S → Step → S → Type 0) → (S → Step → S → Type 0) → Meanings S → (S → Option (List Entry))
+    → S → Exit → S → Type 0
+Performs (Canon L) read write port log s exit t =
+    WritingRun L canon (HasBody (IsMessageText L)) 16383 (λ r. CanonCall L read write s r t) port log s exit t
+Performs (Check L) read write port log s exit t = CheckRun L read port s exit t
+Performs (Show L) read write port log s exit t = WritingRun L show Shown 8223 (λ r. ShowCall L read write s r t) port log s exit t
+Performs (Trial n) read write port log s exit t = TrialExitFacts n write port s exit t
 
 -- What the words say of a run.
-pub record RunFacts (words : List (String Global)) {S : Type 0} (read write : S → Step → S → Type 0) (port : Meanings S) (s : S)
-    (exit : Exit) (t : S) : Type 0 where
+pub record RunFacts (words : List (String Global)) {S : Type 0} (read write : S → Step → S → Type 0) (port : Meanings S)
+    (log : S → Option (List Entry)) (s : S) (exit : Exit) (t : S) : Type 0 where
   pub usage : exit ≡ Usage → MeanNothing words
   pub nothing : MeanNothing words → (exit ≡ Usage) ⊎ (exit ≡ NoMemory)
   pub unused : MeanNothing words → t ≡ s
-  pub performs : (command : Command) → Mean words command → Performs command read write port s exit t
+  pub performs : (command : Command) → Mean words command → Performs command read write port log s exit t
   pub read_fault : exit ≡ ReadFault → Rose (port.read_faults s) (port.read_faults t)
   pub write_fault : exit ≡ WriteFault → Rose (port.write_faults s) (port.write_faults t)
   pub quiet_reads : (exit ≡ ReadFault → ⊥) → port.read_faults t ≡ port.read_faults s

@@ -48,10 +48,10 @@ pub(crate) fn trial<P: Port>(alloc: Global, content: u64, port: &mut P) -> Exit
         return Exit::NoMemory;
     };
     let mut trial = TrialPort::new(content);
-    match engine.canon(alloc, &mut trial) {
+    match engine.canon(&mut trial) {
         CanonEnd::Done(summary) => tell(content, summary, &trial, port),
         CanonEnd::Refused(refusal) => Exit::Refused(Cause::Binary(refusal)),
         // No call of a `TrialPort` fails.
-        CanonEnd::ReadFault | CanonEnd::WriteFault | CanonEnd::NoMemory => Exit::NoMemory,
+        CanonEnd::ReadFault | CanonEnd::WriteFault => Exit::NoMemory,
     }
 }

@@ -89,7 +89,8 @@ abbrev pub StoodIn : Form → At → List ℕ → BodyStep → Type 0
 StoodIn form v piece body_steps.Need = Unit {0}
 StoodIn form v piece (body_steps.Content taken bytes) = Unit {0}
 StoodIn form v piece (body_steps.Over taken) = Unit {0}
-StoodIn form v piece (body_steps.Dead offset) = (phase : Phase) × (number : List ℕ) × Becomes v (take offset piece) [] (at_of phase form number)
+StoodIn form v piece (body_steps.Dead offset) =
+    (phase : Phase) × (number : List ℕ) × Becomes v (take offset piece) [] (at_of phase form number)
 
 -- an event comes with its last byte, and takes nothing behind it
 abbrev pub IsRightIn : BodyStep → At → Type 0

@@ -91,13 +91,13 @@ request_under limit = record {
 }
 
 pub request_spelled : IsRequest default_bounds (record { method = codes "GET"; scheme = codes "https"; authority = []; path = codes "/" }) request_text
-request_spelled = request_under (Some (2 ^ 24))
+request_spelled = request_under (Some (2 ^ 40))
 
 empty_under : (limit : Option ℕ) → IsSection (with_input limit) Known [] (mark parts.SectionLength (0 ∷ []))
 empty_under limit = ([], no_lines (with_input limit), (_, [], one parts.SectionLength 0 (omega arith), refl, refl))
 
 empty_section : IsSection default_bounds Known [] (mark parts.SectionLength (0 ∷ []))
-empty_section = empty_under (Some (2 ^ 24))
+empty_section = empty_under (Some (2 ^ 40))
 
 abbrev a_text : Text
 a_text = (mark parts.NameLength (1 ∷ []) ++ mark parts.Name (0x41 ∷ [])) ++ (mark parts.ValueLength (0 ∷ []) ++ [])
@@ -124,7 +124,7 @@ under_input limit = record {
 }
 
 pub get_spelled : Spells default_bounds (get []) Both 0 get_text
-get_spelled = under_input (Some (2 ^ 24))
+get_spelled = under_input (Some (2 ^ 40))
 
 pub tail_left_out : TailLeftOut
 tail_left_out = ((omega arith, record { text = get_text; spelled = get_spelled; same = refl }), refl)

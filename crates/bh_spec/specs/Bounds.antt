@@ -20,4 +20,4 @@ no_bounds = record { part = None; section = None; interims = None; input = None 
 
 -- the limits of a reader that is told none
 abbrev pub default_bounds : Bounds
-default_bounds = record { part = Some 8192; section = Some 65536; interims = Some 16; input = Some (2 ^ 24) }
+default_bounds = record { part = Some 8192; section = Some 65536; interims = Some 16; input = Some (2 ^ 40) }

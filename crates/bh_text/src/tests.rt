@@ -55,8 +55,8 @@ const ROWS: [(Report, &str); 18] = [
         "refused ended at=0 part=framing\n",
     ),
     (
-        Report::Refused(Cause::Binary(Refusal::TooLong { at: 16_777_216 })),
-        "refused too-long at=16777216\n",
+        Report::Refused(Cause::Binary(Refusal::TooLong { at: 1_099_511_627_776 })),
+        "refused too-long at=1099511627776\n",
     ),
     (
         Report::Refused(Cause::Http1(H1Why::ChunkLineLimit)),

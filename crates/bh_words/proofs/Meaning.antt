@@ -7,7 +7,7 @@ use Rattle.bh_words.specs.Settings.{Text, Form, Setting, Set, value_of}
 use Rattle.bh_words.specs.Arguments.{is_form}
 use Rattle.bh_words.specs.Words.{AreGiven, IsTrial, MeanLimits, MeanTrial, limited, counted, name_of, IsCommand}
 use Rattle.bh_words.specs.declared.commands.Command.{Command}
-use Rattle.bh_words.specs.declared.commands.Command.TheVariants.{Canon, Trial}
+use Rattle.bh_words.specs.declared.commands.Command.TheVariants.{Canon, Check, Show, Trial}
 use Rattle.clap.specs.Matches.{first_value, found_of}
 use Rattle.clap.specs.declared.parser.matches.ArgMatches.{ArgMatches}
 use Rattle.bh_words.specs.Reader.{SetsNothing, Sets}
@@ -80,14 +80,24 @@ pub no_canon : (words : List Text) (o : Option Bounds) → MatchOption o ((limit
 no_canon words o answer none (Canon limits) is = no_limits words o answer none limits (is.settings, subst (λ ws. Set limited is.settings ws) (sym (behind (codes "canon") (codes "canon") words is.rest is.named)) is.set, is.meant)
 no_canon words o answer none other is = let e : true ≡ false = ap (bytes_eq (codes "canon")) (front (codes "canon") (name_of other) words is.rest is.named) in absurd cc
 
+pub no_check : (words : List Text) (o : Option Bounds) → MatchOption o ((limits : Bounds) → MeanLimits words limits → ⊥) (MeanLimits words) → o ≡ None → (command : Command) → IsCommand (codes "check" ∷ words) command → ⊥
+no_check words o answer none (Check limits) is = no_limits words o answer none limits (is.settings, subst (λ ws. Set limited is.settings ws) (sym (behind (codes "check") (codes "check") words is.rest is.named)) is.set, is.meant)
+no_check words o answer none other is = let e : true ≡ false = ap (bytes_eq (codes "check")) (front (codes "check") (name_of other) words is.rest is.named) in absurd cc
+
+pub no_show : (words : List Text) (o : Option Bounds) → MatchOption o ((limits : Bounds) → MeanLimits words limits → ⊥) (MeanLimits words) → o ≡ None → (command : Command) → IsCommand (codes "show" ∷ words) command → ⊥
+no_show words o answer none (Show limits) is = no_limits words o answer none limits (is.settings, subst (λ ws. Set limited is.settings ws) (sym (behind (codes "show") (codes "show") words is.rest is.named)) is.set, is.meant)
+no_show words o answer none other is = let e : true ≡ false = ap (bytes_eq (codes "show")) (front (codes "show") (name_of other) words is.rest is.named) in absurd cc
+
 pub no_trial : (words : List Text) (o : Option ℕ) → MatchOption o ((n : ℕ) → MeanTrial words n → ⊥) (MeanTrial words) → o ≡ None → (command : Command) → IsCommand (codes "trial" ∷ words) command → ⊥
 no_trial words o answer none (Trial n) is = no_number words o answer none n (is.settings, subst (λ ws. Set counted is.settings ws) (sym (behind (codes "trial") (codes "trial") words is.rest is.named)) is.set, is.meant)
 no_trial words o answer none other is = let e : true ≡ false = ap (bytes_eq (codes "trial")) (front (codes "trial") (name_of other) words is.rest is.named) in absurd cc
 
-pub unnamed : (name : Text) (words : List Text) → (name ≡ codes "canon" → ⊥) → (name ≡ codes "trial" → ⊥)
-    → (command : Command) → IsCommand (name ∷ words) command → ⊥
-unnamed name words canon trial (Canon limits) is = canon (front name (codes "canon") words is.rest is.named)
-unnamed name words canon trial (Trial n) is = trial (front name (codes "trial") words is.rest is.named)
+pub unnamed : (name : Text) (words : List Text) → (name ≡ codes "canon" → ⊥) → (name ≡ codes "check" → ⊥) → (name ≡ codes "show" → ⊥)
+    → (name ≡ codes "trial" → ⊥) → (command : Command) → IsCommand (name ∷ words) command → ⊥
+unnamed name words canon check show trial (Canon limits) is = canon (front name (codes "canon") words is.rest is.named)
+unnamed name words canon check show trial (Check limits) is = check (front name (codes "check") words is.rest is.named)
+unnamed name words canon check show trial (Show limits) is = show (front name (codes "show") words is.rest is.named)
+unnamed name words canon check show trial (Trial n) is = trial (front name (codes "trial") words is.rest is.named)
 
 -- ---- words mean one command
 same_bounds : (a b : Bounds) → a.part ≡ b.part → a.section ≡ b.section → a.interims ≡ b.interims → a.input ≡ b.input → a ≡ b
@@ -127,5 +137,9 @@ names words a b p q = front (name_of a) (name_of b) p.rest q.rest (sym p.named �
 pub one_command : (words : List Text) (a b : Command) → IsCommand words a → IsCommand words b → a ≡ b
 one_command words (Canon x) (Canon y) p q = ap Canon (limits_once p.rest x y (p.settings, p.set, p.meant) (q.settings, subst (Set limited q.settings) (rests words (Canon x) (Canon y) p q) q.set, q.meant))
 one_command words (Canon x) other p q = let e : true ≡ false = ap (bytes_eq (codes "canon")) (names words (Canon x) other p q) in absurd cc
+one_command words (Check x) (Check y) p q = ap Check (limits_once p.rest x y (p.settings, p.set, p.meant) (q.settings, subst (Set limited q.settings) (rests words (Check x) (Check y) p q) q.set, q.meant))
+one_command words (Check x) other p q = let e : true ≡ false = ap (bytes_eq (codes "check")) (names words (Check x) other p q) in absurd cc
+one_command words (Show x) (Show y) p q = ap Show (limits_once p.rest x y (p.settings, p.set, p.meant) (q.settings, subst (Set limited q.settings) (rests words (Show x) (Show y) p q) q.set, q.meant))
+one_command words (Show x) other p q = let e : true ≡ false = ap (bytes_eq (codes "show")) (names words (Show x) other p q) in absurd cc
 one_command words (Trial x) (Trial y) p q = ap Trial (trial_once p.rest x y (p.settings, p.set, p.meant) (q.settings, subst (Set counted q.settings) (rests words (Trial x) (Trial y) p q) q.set, q.meant))
 one_command words (Trial x) other p q = let e : true ≡ false = ap (bytes_eq (codes "trial")) (names words (Trial x) other p q) in absurd cc

@@ -3,7 +3,7 @@ use Rattle.std.specs.Prelude.{ℕ, ◌≡◌, ◌≤◌, List, [], ◌∷◌, Op
 use Rattle.bh_spec.specs.Bounds.{Bounds, default_bounds}
 use Rattle.bh_model.specs.Ranges.{AreLimits}
 use Rattle.bh_words.specs.declared.commands.Command.{Command}
-use Rattle.bh_words.specs.declared.commands.Command.TheVariants.{Canon, Trial}
+use Rattle.bh_words.specs.declared.commands.Command.TheVariants.{Canon, Check, Show, Trial}
 use Rattle.bh_words.specs.Numbers.{IsNumber, IsGiven}
 use Rattle.bh_words.specs.Settings.{Text, Form, Setting, Set, value_of}
 
@@ -32,14 +32,20 @@ pub record IsTrial (value : Text → Option Text) (n : ℕ) : Type 0 where
 -- Of each command its name, what it takes behind it, and which values mean it.
 abbrev pub name_of : Command → Text
 name_of (Canon limits) = codes "canon"
+name_of (Check limits) = codes "check"
+name_of (Show limits) = codes "show"
 name_of (Trial n) = codes "trial"
 
 abbrev pub form_of_command : Command → Form
 form_of_command (Canon limits) = limited
+form_of_command (Check limits) = limited
+form_of_command (Show limits) = limited
 form_of_command (Trial n) = counted
 
 abbrev pub IsMeant : Command → (Text → Option Text) → Type 0
 IsMeant (Canon limits) value = AreGiven value limits
+IsMeant (Check limits) value = AreGiven value limits
+IsMeant (Show limits) value = AreGiven value limits
 IsMeant (Trial n) value = IsTrial value n
 
 -- The words mean the command.

@@ -18,6 +18,10 @@ use std::alloc::{AllocError, Global};
 pub enum Command {
     /// Make a message canonical.
     Canon(Limits),
+    /// Check a message.
+    Check(Limits),
+    /// List a message.
+    Show(Limits),
     /// Make a message with so many bytes of content, and make it canonical.
     Trial(u64),
 }
@@ -77,6 +81,26 @@ fn canon(alloc: Global, words: &[String]) -> Result<Option<Command>, NoMemory>
     }
 }
 
+/// `check`, where the words behind its name mean it.
+fn check(alloc: Global, words: &[String]) -> Result<Option<Command>, NoMemory>
+    ensures { IfOk result (Finds (IsCommand (codes "check" ∷ map string_bytes words.now))) }
+{
+    match limited(alloc, words)? {
+        Some(limits) => Ok(Some(Command::Check(limits))),
+        None => Ok(None),
+    }
+}
+
+/// `show`, where the words behind its name mean it.
+fn show(alloc: Global, words: &[String]) -> Result<Option<Command>, NoMemory>
+    ensures { IfOk result (Finds (IsCommand (codes "show" ∷ map string_bytes words.now))) }
+{
+    match limited(alloc, words)? {
+        Some(limits) => Ok(Some(Command::Show(limits))),
+        None => Ok(None),
+    }
+}
+
 /// `trial`, where the words behind its name mean it.
 fn trial_command(alloc: Global, words: &[String]) -> Result<Option<Command>, NoMemory>
     ensures { IfOk result (Finds (IsCommand (codes "trial" ∷ map string_bytes words.now))) }
@@ -93,6 +117,12 @@ fn named(alloc: Global, name: &str, words: &[String]) -> Result<Option<Command>,
 {
     if name == "canon" {
         return canon(alloc, words);
+    }
+    if name == "check" {
+        return check(alloc, words);
+    }
+    if name == "show" {
+        return show(alloc, words);
     }
     if name == "trial" {
         return trial_command(alloc, words);

@@ -14,10 +14,12 @@ fn list_of(alloc: Global, text: &str) -> Result<Vec<String>, Fail> {
     Ok(words)
 }
 
-/// What words mean: `canon` with its limits, `trial` with its number, or no command.
+/// What words mean: `canon`, `check` or `show` with its limits, `trial` with its number, or no command.
 #[derive(Clone, Copy, Debug, PartialEq, Eq)]
 enum Meant {
     Canon(u64, u64, u64, u64),
+    Check(u64, u64, u64, u64),
+    Show(u64, u64, u64, u64),
     Trial(u64),
     Nothing,
 }
@@ -26,6 +28,8 @@ enum Meant {
 fn value_of(command: &Command) -> Meant {
     match command {
         Command::Canon(l) => Meant::Canon(l.part(), l.section(), l.interims(), l.input()),
+        Command::Check(l) => Meant::Check(l.part(), l.section(), l.interims(), l.input()),
+        Command::Show(l) => Meant::Show(l.part(), l.section(), l.interims(), l.input()),
         Command::Trial(n) => Meant::Trial(*n),
     }
 }
@@ -39,30 +43,30 @@ fn meaning(alloc: Global, text: &str) -> Result<Meant, Fail> {
 }
 
 /// Words, and what they mean.
-const ROWS: [(&str, Meant); 106] = [
-    ("canon", Meant::Canon(8192, 65_536, 16, 16_777_216)),
-    ("canon|--part|16", Meant::Canon(16, 65_536, 16, 16_777_216)),
-    ("canon|--part=16", Meant::Canon(16, 65_536, 16, 16_777_216)),
+const ROWS: [(&str, Meant); 110] = [
+    ("canon", Meant::Canon(8192, 65_536, 16, 1_099_511_627_776)),
+    ("canon|--part|16", Meant::Canon(16, 65_536, 16, 1_099_511_627_776)),
+    ("canon|--part=16", Meant::Canon(16, 65_536, 16, 1_099_511_627_776)),
     (
         "canon|--part|65535",
-        Meant::Canon(65_535, 65_536, 16, 16_777_216),
+        Meant::Canon(65_535, 65_536, 16, 1_099_511_627_776),
     ),
     (
         "canon|--part=65535",
-        Meant::Canon(65_535, 65_536, 16, 16_777_216),
+        Meant::Canon(65_535, 65_536, 16, 1_099_511_627_776),
     ),
-    ("canon|--section|16", Meant::Canon(8192, 16, 16, 16_777_216)),
+    ("canon|--section|16", Meant::Canon(8192, 16, 16, 1_099_511_627_776)),
     (
         "canon|--section=1048576",
-        Meant::Canon(8192, 1_048_576, 16, 16_777_216),
+        Meant::Canon(8192, 1_048_576, 16, 1_099_511_627_776),
     ),
     (
         "canon|--interims|0",
-        Meant::Canon(8192, 65_536, 0, 16_777_216),
+        Meant::Canon(8192, 65_536, 0, 1_099_511_627_776),
     ),
     (
         "canon|--interims=255",
-        Meant::Canon(8192, 65_536, 255, 16_777_216),
+        Meant::Canon(8192, 65_536, 255, 1_099_511_627_776),
     ),
     ("canon|--input|1", Meant::Canon(8192, 65_536, 16, 1)),
     (
@@ -71,7 +75,7 @@ const ROWS: [(&str, Meant); 106] = [
     ),
     (
         "canon|--part=0000000000016",
-        Meant::Canon(16, 65_536, 16, 16_777_216),
+        Meant::Canon(16, 65_536, 16, 1_099_511_627_776),
     ),
     (
         "canon|--input|0000000000001",
@@ -79,16 +83,20 @@ const ROWS: [(&str, Meant); 106] = [
     ),
     (
         "canon|--part=16|--interims|0",
-        Meant::Canon(16, 65_536, 0, 16_777_216),
+        Meant::Canon(16, 65_536, 0, 1_099_511_627_776),
     ),
     (
         "canon|--interims|0|--part=16",
-        Meant::Canon(16, 65_536, 0, 16_777_216),
+        Meant::Canon(16, 65_536, 0, 1_099_511_627_776),
     ),
     (
         "canon|--input|4|--interims=3|--section|17|--part=16",
         Meant::Canon(16, 17, 3, 4),
     ),
+    ("check", Meant::Check(8192, 65_536, 16, 1_099_511_627_776)),
+    ("check|--part=16|--input|4", Meant::Check(16, 65_536, 16, 4)),
+    ("show", Meant::Show(8192, 65_536, 16, 1_099_511_627_776)),
+    ("show|--interims=0|--section|17", Meant::Show(8192, 17, 0, 1_099_511_627_776)),
     ("trial|0", Meant::Trial(0)),
     ("trial|5", Meant::Trial(5)),
     ("trial|0000067108864", Meant::Trial(67_108_864)),
@@ -102,8 +110,8 @@ const ROWS: [(&str, Meant); 106] = [
     ("-h", Meant::Nothing),
     ("--help", Meant::Nothing),
     ("help", Meant::Nothing),
-    ("check", Meant::Nothing),
-    ("show", Meant::Nothing),
+    ("checks", Meant::Nothing),
+    ("sho", Meant::Nothing),
     ("from-http1", Meant::Nothing),
     ("serve|8080", Meant::Nothing),
     ("canon|", Meant::Nothing),

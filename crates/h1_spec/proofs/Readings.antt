@@ -114,7 +114,7 @@ status_is status line reason ss l g = (line ++ crlf, lines_of ss ++ crlf, (line,
 -- ---- what is read, and what is refused
 
 -- a head and a body, without informational responses
-pub read_of : (start : Start) (h : Head) (content : List ℕ) (fs : List Field) (x y : List ℕ) → length (x ++ y) ≤ 2 ^ 24 → length x ≤ 65536 → interims_of start ≡ [] → IsHead h x
+pub read_of : (start : Start) (h : Head) (content : List ℕ) (fs : List Field) (x y : List ℕ) → length (x ++ y) ≤ 2 ^ 40 → length x ≤ 65536 → interims_of start ≡ [] → IsHead h x
     → IsStartOf Https h start → IsCoded h.fields → IsCounted h.fields → IsBody default_bounds (framing false h) content fs y → AreBytes content
     → StartFits default_bounds start → FieldsFit default_bounds (clean (hops h.fields) (says_host start) h.fields) → FieldsFit default_bounds (clean_trailers (hops h.fields) fs)
     → IsFromAnswer default_bounds Https false (x ++ y)
@@ -189,7 +189,7 @@ one_host control fs value one each = record { value = value; one = one; each = �
 -- a request by its control data, its target and its lines
 pub asked : (control : Control) (target : List ℕ) (ss : List Shown) (content : List ℕ) (fs : List Field) (y : List ℕ)
     → IsHead (request_head control.method target ss) (request_text control.method target ss)
-    → length (request_text control.method target ss ++ y) ≤ 2 ^ 24 → length (request_text control.method target ss) ≤ 65536
+    → length (request_text control.method target ss ++ y) ≤ 2 ^ 40 → length (request_text control.method target ss) ≤ 65536
     → IsTargetOf Https control.method target control → bytes_eq control.method (codes "CONNECT") ≡ false → HasHost control (map field_of ss)
     → IsCoded (map field_of ss) → IsCounted (map field_of ss) → IsBody default_bounds (framing false (request_head control.method target ss)) content fs y → AreBytes content
     → ControlFits default_bounds control → FieldsFit default_bounds (clean (hops (map field_of ss)) (says_host (request control)) (map field_of ss))
@@ -207,7 +207,7 @@ pub status_line_is : (status : ℕ) (reason line : List ℕ) → 100 ≤ status 
 status_line_is status reason line low high each written = (low, high, (reason, each, written))
 
 pub refused_by : (method target : List ℕ) (ss : List Shown) (y : List ℕ) (cause : H1Why) → IsHead (request_head method target ss) (request_text method target ss)
-    → length (request_text method target ss ++ y) ≤ 2 ^ 24 → length (request_text method target ss) ≤ 65536
+    → length (request_text method target ss ++ y) ≤ 2 ^ 40 → length (request_text method target ss) ≤ 65536
     → OfStart default_bounds Https false [] (request_head method target ss) y (request_line method target) cause → refuses (request_text method target ss ++ y) cause
 refused_by method target ss y cause head within short says =
     inl (within, cause_of default_bounds (request_head method target ss) (request_text method target ss) y cause (omega arith) short head says)

@@ -180,7 +180,7 @@ abbrev pub early : Message
 early = record { start = response (record { status = 103; fields = [] } ∷ []) 200; fields = []; content = codes "hi"; trailers = [] }
 
 abbrev pub no_interims : Bounds
-no_interims = record { part = Some 8192; section = Some 65536; interims = Some 0; input = Some (2 ^ 24) }
+no_interims = record { part = Some 8192; section = Some 65536; interims = Some 0; input = Some (2 ^ 40) }
 
 abbrev pub InterimsTranslated : Type 0
 InterimsTranslated = reads early_text early

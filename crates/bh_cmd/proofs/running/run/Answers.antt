@@ -1,14 +1,41 @@
-use Rattle.bh_words.specs.declared.commands.Command.TheVariants.{Canon, Trial}
+use Rattle.bh_words.specs.declared.commands.Command.TheVariants.{Canon, Check, Show, Trial}
 use Rattle.bh_cmd.proofs.running.run.Goals as goal
 
-pub returns-clause-chain : goal.returns-clause-chain
-returns-clause-chain g c = λ L is. (c.obey-exit.ensures.performs (Canon L) is).chain
+pub returns-clause-canon : goal.returns-clause-canon
+returns-clause-canon g c = λ L is. (c.obey-exit.ensures.performs (Canon L) is).call
 
-pub returns-clause-told : goal.returns-clause-told
-returns-clause-told g c = λ L is. (c.obey-exit.ensures.performs (Canon L) is).told
+pub returns-clause-canon_told : goal.returns-clause-canon_told
+returns-clause-canon_told g c = λ L is. (c.obey-exit.ensures.performs (Canon L) is).told
 
-pub returns-clause-complete : goal.returns-clause-complete
-returns-clause-complete g c = λ L is. (c.obey-exit.ensures.performs (Canon L) is).complete
+pub returns-clause-canon_complete : goal.returns-clause-canon_complete
+returns-clause-canon_complete g c = λ L is. (c.obey-exit.ensures.performs (Canon L) is).complete
+
+pub returns-clause-canon_log : goal.returns-clause-canon_log
+returns-clause-canon_log g c = λ L is. (c.obey-exit.ensures.performs (Canon L) is).logged
+
+pub returns-clause-show : goal.returns-clause-show
+returns-clause-show g c = λ L is. (c.obey-exit.ensures.performs (Show L) is).call
+
+pub returns-clause-show_told : goal.returns-clause-show_told
+returns-clause-show_told g c = λ L is. (c.obey-exit.ensures.performs (Show L) is).told
+
+pub returns-clause-show_complete : goal.returns-clause-show_complete
+returns-clause-show_complete g c = λ L is. (c.obey-exit.ensures.performs (Show L) is).complete
+
+pub returns-clause-show_log : goal.returns-clause-show_log
+returns-clause-show_log g c = λ L is. (c.obey-exit.ensures.performs (Show L) is).logged
+
+pub returns-clause-check : goal.returns-clause-check
+returns-clause-check g c = λ L is. (c.obey-exit.ensures.performs (Check L) is).call
+
+pub returns-clause-check_told : goal.returns-clause-check_told
+returns-clause-check_told g c = λ L is. (c.obey-exit.ensures.performs (Check L) is).told
+
+pub returns-clause-check_complete : goal.returns-clause-check_complete
+returns-clause-check_complete g c = λ L is. (c.obey-exit.ensures.performs (Check L) is).complete
+
+pub returns-clause-check_silent : goal.returns-clause-check_silent
+returns-clause-check_silent g c = λ L is. (c.obey-exit.ensures.performs (Check L) is).silent
 
 pub returns-clause-trial : goal.returns-clause-trial
 returns-clause-trial g c = λ n is. (c.obey-exit.ensures.performs (Trial n) is).run
