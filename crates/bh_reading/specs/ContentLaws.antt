@@ -14,7 +14,7 @@ use Rattle.bh_spec.specs.Bounds.{Bounds}
 use Rattle.bh_spec.specs.Messages.{Field, Control, Interim}
 use Rattle.bh_spec.specs.Texts.{Text, mark, content_in, IsNumber, AreEach, IsString}
 use Rattle.bh_spec.specs.Sections.{IsLine, IsSection}
-use Rattle.bh_spec.specs.Spelling.{IsRequest, IsInterimText}
+use Rattle.bh_spec.specs.Spelling.{IsRequestControl, IsInterimText}
 use Rattle.bh_spec.specs.Yields.{Yields}
 use Rattle.bh_spec.specs.Items.{Item, content_byte, Head}
 use Rattle.bh_spec.proofs.Marks.{content-append}
@@ -229,7 +229,7 @@ control_none K (control_phases.Bytes place left) r c t h = left_none K place c (
 control_none K control_phases.Whole r c t h = ap content_in h.2
 control_none K control_phases.Refused r c t h = absurd h
 
-request_none : (L : Bounds) (c : Control) (t : Text) → IsRequest L c t → content_in t ≡ 0
+request_none : (L : Bounds) (c : Control) (t : Text) → IsRequestControl L c t → content_in t ≡ 0
 request_none L c t h =
     let a = h.text in
     let b = a.3 in
