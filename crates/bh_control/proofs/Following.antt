@@ -17,7 +17,9 @@ use Rattle.bh_control.specs.declared.progress.Phase.{Phase}
 use Rattle.bh_control.specs.declared.progress.Phase.TheVariants.{Idle, Length, Bytes, Whole, Refused}
 use Rattle.bh_spec.specs.Pieces.{SomeOf, CanBecome, IsNext}
 use Rattle.bh_control.specs.Control.{ControlOf, IsControlText}
-use Rattle.bh_control.specs.Phases.{Read, long_of, part_of, part_now, Holds, HasString, BehindPath, BehindAuthority, BehindScheme, BehindMethod, Rest, IsOpenAt, Steps, HasNone, HasSome}
+use Rattle.bh_control.specs.Phases.{Read, long_of, part_of, part_now}
+use Rattle.bh_control.specs.Rules.{IsOpenAt}
+use Rattle.bh_control.specs.Grammar.{Holds, HasString, BehindPath, BehindAuthority, BehindScheme, BehindMethod, Rest, Steps, HasNone, HasSome}
 use Rattle.bh_control.specs.Stored.{no_strings}
 use Rattle.bh_control.specs.Reading.{IsReading}
 use Rattle.bh_spec.specs.Residuals.{IsResidual}

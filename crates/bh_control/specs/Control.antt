@@ -13,7 +13,7 @@ use Rattle.bh_control.specs.declared.progress.Phase.{Phase}
 use Rattle.bh_control.specs.declared.progress.Phase.TheVariants.{Length}
 use Rattle.bh_control.specs.declared.strings.Place.TheVariants.{Method}
 use Rattle.bh_control.specs.Stored.{no_strings}
-use Rattle.bh_control.specs.Phases.{Rest as read_rest}
+use Rattle.bh_control.specs.Grammar.{Rest as read_rest}
 
 -- the text of control data that keeps the rules, within the limits
 pub record ControlOf (L : Bounds) (c : Control) (t : Text) : Type 0 where
