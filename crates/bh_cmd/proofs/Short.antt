@@ -13,7 +13,7 @@ use Rattle.bh_spec.specs.Bytes.{AreBytes}
 use Rattle.bh_spec.specs.Integers.{int, vi, least_width}
 use Rattle.bh_spec.specs.Messages.{Field, Interim, Start, request, response, Message, kind_of}
 use Rattle.bh_spec.specs.Spelling.{framing}
-use Rattle.bh_spec.specs.Canonical.{string, lines, section, interim, start, cut_within, cut, body, canon, FieldsFit, StartFits, Fits}
+use Rattle.bh_spec.specs.Canonical.{string, lines, section, interim, start, cut_within, cut, spelled_content, canon, FieldsFit, StartFits, Fits}
 use Rattle.bh_spec.proofs.Widths.{length-vi}
 use Rattle.bh_spec.proofs.Fitting.{fits_where_spelled}
 use Rattle.bh_spec.proofs.Contents.{content_long}
@@ -79,7 +79,7 @@ pieces_few (suc turns) (byte ∷ rest) =
       pieces_few turns back,
     )
 
-body_few : (content : List ℕ) → length (body Indeterminate content) ≤ 9 * length content + 8
+body_few : (content : List ℕ) → length (spelled_content Indeterminate content) ≤ 9 * length content + 8
 body_few content = omega (arith, pieces_few (length content) content, int_few 0, length-append (flat_map string (cut 8192 content)) (int 0))
 
 canon_few : (m : Message) → Fits default_bounds m → length m.content ≤ 2 ^ 40 → length (canon m) < 2 ^ 48
@@ -87,7 +87,7 @@ canon_few m h short =
     let front = int (framing (kind_of m.start) Indeterminate) in
     let head = start Indeterminate m.start in
     let fields = section Indeterminate m.fields in
-    let content = body Indeterminate m.content in
+    let content = spelled_content Indeterminate m.content in
     let trailers = section Indeterminate m.trailers in
     omega (
       arith,

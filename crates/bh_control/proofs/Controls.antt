@@ -19,7 +19,9 @@ use Rattle.bh_control.specs.declared.progress.Phase.{Phase}
 use Rattle.bh_control.specs.declared.progress.Phase.TheVariants.{Idle, Length, Bytes, Whole as Ended, Refused}
 use Rattle.bh_control.specs.declared.progress.Progress.{Progress}
 use Rattle.bh_control.specs.Control.{ControlOf, ControlState, Rest as state_rest, IsWanted, Leads, IsLeft, Takes, IsBehind}
-use Rattle.bh_control.specs.Phases.{Read, Rest, part_now, IsOpenAt, HasNone, HasSome}
+use Rattle.bh_control.specs.Phases.{Read, part_now}
+use Rattle.bh_control.specs.Rules.{IsOpenAt}
+use Rattle.bh_control.specs.Grammar.{Rest, HasNone, HasSome}
 use Rattle.bh_control.specs.Stored.{control_in, no_strings, HasRoom}
 use Rattle.bh_control.specs.Reading.{read_of, IsReading, Allows, IsTaken, Keeps}
 use Rattle.bh_control.specs.Sound.{stage_of, state_at, Knows, IsSound}

@@ -6,7 +6,7 @@ use Rattle.bh_spec.specs.declared.Part.TheVariants as parts
 use Rattle.bh_spec.specs.Integers.{vi}
 use Rattle.bh_spec.specs.Bounds.{Bounds, IsWithin}
 use Rattle.bh_spec.specs.Messages.{Control}
-use Rattle.bh_spec.specs.Spelling.{IsRequest}
+use Rattle.bh_spec.specs.Spelling.{IsRequestControl}
 use Rattle.bh_spec.specs.Texts.{Text, mark, bytes_of, ◌then◌, IsString}
 use Rattle.bh_spec.proofs.Meeting.{meets_map, meets_one}
 use Rattle.bh_spec.proofs.Agreement.{Agree}
@@ -17,7 +17,9 @@ use Rattle.bh_control.specs.declared.progress.Phase.{Phase}
 use Rattle.bh_control.specs.declared.progress.Phase.TheVariants.{Idle, Length, Bytes, Whole, Refused}
 use Rattle.bh_spec.specs.Pieces.{SomeOf, CanBecome, IsNext}
 use Rattle.bh_control.specs.Control.{ControlOf, IsControlText}
-use Rattle.bh_control.specs.Phases.{Read, long_of, part_of, part_now, Holds, HasString, BehindPath, BehindAuthority, BehindScheme, BehindMethod, Rest, IsOpenAt, Steps, HasNone, HasSome}
+use Rattle.bh_control.specs.Phases.{Read, long_of, part_of, part_now}
+use Rattle.bh_control.specs.Rules.{IsOpenAt}
+use Rattle.bh_control.specs.Grammar.{Holds, HasString, BehindPath, BehindAuthority, BehindScheme, BehindMethod, Rest, Steps, HasNone, HasSome}
 use Rattle.bh_control.specs.Stored.{no_strings}
 use Rattle.bh_control.specs.Reading.{IsReading}
 use Rattle.bh_spec.specs.Residuals.{IsResidual}
@@ -51,7 +53,7 @@ path_of K c t h =
 short : (K : Bounds) (a b : List ℕ) → length a ≡ length b → IsWithin K.part (length a) → IsWithin K.part (length b)
 short K a b e h = subst (IsWithin K.part) e h
 
-request_of : (K : Bounds) (c : Control) (t : Text) → HasString K Method c (BehindMethod K c) t → IsRequest K c t
+request_of : (K : Bounds) (c : Control) (t : Text) → HasString K Method c (BehindMethod K c) t → IsRequestControl K c t
 request_of K c t m =
     let s = m.behind in
     let a = s.behind in
@@ -85,7 +87,7 @@ string_from K place c A s x y t h e within holds a = record {
       sym (append_assoc number run y) ∙ sym (ap (λ (z : Text). z ++ y) (h.4 ∙ ap₂ (λ (u v : Text). u ++ v) h.2.spelled h.3)) ∙ sym e;
 }
 
-request_from : (K : Bounds) (c : Control) (t : Text) → IsRequest K c t → HasString K Method c (BehindMethod K c) t
+request_from : (K : Bounds) (c : Control) (t : Text) → IsRequestControl K c t → HasString K Method c (BehindMethod K c) t
 request_from K c t r =
     let m = r.text in
     let s = m.3 in

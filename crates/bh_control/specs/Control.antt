@@ -2,7 +2,7 @@
 use Rattle.std.specs.Prelude.{ℕ, ◌≡◌, List, []}
 use Rattle.bh_spec.specs.Bounds.{Bounds, no_bounds}
 use Rattle.bh_spec.specs.Messages.{Control, IsControl}
-use Rattle.bh_spec.specs.Spelling.{IsRequest}
+use Rattle.bh_spec.specs.Spelling.{IsRequestControl}
 use Rattle.bh_spec.specs.Texts.{Text}
 use Rattle.bh_spec.specs.declared.PieceStep.{PieceStep}
 use Rattle.bh_spec.specs.declared.Judged.{Judged}
@@ -13,12 +13,12 @@ use Rattle.bh_control.specs.declared.progress.Phase.{Phase}
 use Rattle.bh_control.specs.declared.progress.Phase.TheVariants.{Length}
 use Rattle.bh_control.specs.declared.strings.Place.TheVariants.{Method}
 use Rattle.bh_control.specs.Stored.{no_strings}
-use Rattle.bh_control.specs.Phases.{Rest as read_rest}
+use Rattle.bh_control.specs.Grammar.{Rest as read_rest}
 
 -- the text of control data that keeps the rules, within the limits
 pub record ControlOf (L : Bounds) (c : Control) (t : Text) : Type 0 where
   pub valid : IsControl c
-  pub spelled : IsRequest L c t
+  pub spelled : IsRequestControl L c t
 
 abbrev pub IsControlText : Bounds → Text → Type 0
 IsControlText L = SomeOf (ControlOf L)

@@ -6,7 +6,7 @@ use Rattle.bh_control.specs.declared.progress.Phase.{Phase}
 use Rattle.bh_control.specs.declared.progress.Phase.TheVariants.{Idle, Length, Bytes, Whole, Refused}
 use Rattle.bh_spec.specs.Readings.{Stage, idle, reading, whole, refused}
 use Rattle.bh_control.specs.Control.{ControlState, IsLeft}
-use Rattle.bh_control.specs.Phases.{IsOpenAt}
+use Rattle.bh_control.specs.Rules.{IsOpenAt}
 use Rattle.bh_control.specs.Stored.{control_in, HasRoom}
 use Rattle.bh_control.specs.Reading.{IsReading}
 

@@ -27,7 +27,9 @@ use Rattle.bh_fields.specs.Rests.{Spot, AreGood, LinesLeft, LengthBody}
 use Rattle.bh_fields.specs.Bytewise.{Steps, HasFirst, IsLeft}
 use Rattle.bh_fields.specs.Names.{MayBePseudo}
 use Rattle.bh_fields.specs.Phases.{part_at}
-use Rattle.bh_fields.specs.Points.{Point, RestOf, part_of, most_of, IsSized, ReadingAt, IsSame, IsStep, WholeState}
+use Rattle.bh_fields.specs.Points.{Point, RestOf, part_of, most_of, IsSized, IsSame}
+use Rattle.bh_fields.specs.Stepping.{IsStep}
+use Rattle.bh_fields.specs.States.{ReadingAt, WholeState}
 use Rattle.bh_spec.specs.Readings.{reading}
 use Rattle.bh_fields.specs.Middle.{stage_of, first_of, line_begun, RestAt, Rest}
 use Rattle.bh_fields.specs.Views.{view_at, IsSoundAt, Takes}

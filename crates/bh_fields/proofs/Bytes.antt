@@ -23,7 +23,9 @@ use Rattle.bh_fields.specs.Sets.{values_set}
 use Rattle.bh_fields.specs.Rests.{Spot, further, with_line, AreGood, LinesLeft, ValueLeft, NameLeft, NameBody}
 use Rattle.bh_fields.specs.Bytewise.{Steps, AreSame, HasNone}
 use Rattle.bh_fields.specs.Names.{MayBePseudo, NameTakes, flag_behind, ValueTakes, IsValueByte}
-use Rattle.bh_fields.specs.Points.{Point, spot_of, RestOf, LinesAt, NamedAt, part_of, IsSized, NextState, NamedState, making_of, NameState, InValue, Moves, IsStep}
+use Rattle.bh_fields.specs.Points.{Point, spot_of, RestOf, LinesAt, NamedAt, part_of, IsSized}
+use Rattle.bh_fields.specs.Stepping.{Moves, IsStep}
+use Rattle.bh_fields.specs.States.{NextState, NamedState, making_of, NameState, InValue}
 use Rattle.bh_fields.proofs.Strings.{line_of, name_whole, flag_on, name_good, flag_good, name_takes, value_takes, value_good, value_whole}
 use Rattle.bh_fields.proofs.Lines.{name_forth, name_back, name_to_value, value_to_name, value_forth, value_back, value_to_lines, lines_to_value}
 use Rattle.bh_fields.proofs.Counting.{name_allowed, values_begin, name_left_is, value_left_is, good_on}

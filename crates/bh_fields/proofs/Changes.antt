@@ -10,7 +10,8 @@ use Rattle.bh_spec.specs.declared.Judged.{Judged}
 use Rattle.bh_spec.specs.declared.Judged.TheVariants as judged
 use Rattle.bh_fields.specs.Phases.{part_at}
 use Rattle.bh_fields.specs.Bytewise.{Steps, AreSame}
-use Rattle.bh_fields.specs.Points.{Point, RestOf, part_of, most_of, IsSized, IsSame, Moves, IsStep}
+use Rattle.bh_fields.specs.Points.{Point, RestOf, part_of, most_of, IsSized, IsSame}
+use Rattle.bh_fields.specs.Stepping.{Moves, IsStep}
 use Rattle.bh_fields.proofs.States.{steps_same, same_on}
 
 -- ---- a point with other numbers, lines and bytes

@@ -18,7 +18,9 @@ use Rattle.bh_fields.specs.Sets.{lines_set, names_set, values_set, free_room}
 use Rattle.bh_fields.specs.Bytewise.{Steps, HasNone, HasSome}
 use Rattle.bh_varint.specs.Numbers.{NumberThen}
 use Rattle.bh_fields.specs.Rests.{CanEnd, HasMore, NameBody, IsAtEnd}
-use Rattle.bh_fields.specs.Points.{Point, spot_of, RestOf, LinesAt, NamedAt, part_of, most_of, IsSized, IsBounded, LengthState, NextState, LineState, NamedState, ValueLengthState, InValue, IsFull, Moves, IsStep}
+use Rattle.bh_fields.specs.Points.{Point, spot_of, RestOf, LinesAt, NamedAt, part_of, most_of, IsSized}
+use Rattle.bh_fields.specs.Stepping.{Moves, IsStep}
+use Rattle.bh_fields.specs.States.{IsBounded, LengthState, NextState, LineState, NamedState, ValueLengthState, InValue, IsFull}
 use Rattle.bh_spec.proofs.Widths.{count_1}
 use Rattle.bh_fields.proofs.Strings.{value_begun}
 use Rattle.bh_fields.proofs.Lines.{lines_to_number, number_to_lines, end_to_lines, lines_to_end}

@@ -23,7 +23,8 @@ use Rattle.bh_fields.specs.Rests.{Spot, AreGood, ValueLeft, ValueBody, NameLeft,
 use Rattle.bh_fields.specs.Middle.{line_begun, RestAt}
 use Rattle.bh_fields.specs.Bytewise.{Steps, AreSame, HasNone, HasSome, HasFirst}
 use Rattle.bh_fields.specs.Phases.{part_at}
-use Rattle.bh_fields.specs.Points.{Point, spot_of, RestOf, making_of, part_of, most_of, IsSized, IsBounded, LengthState, Between, LineState, NameState, Valued, ValueLengthState, InValue, ReadingAt}
+use Rattle.bh_fields.specs.Points.{Point, spot_of, RestOf, part_of, most_of, IsSized}
+use Rattle.bh_fields.specs.States.{making_of, IsBounded, LengthState, Between, LineState, NameState, Valued, ValueLengthState, InValue, ReadingAt}
 use Rattle.bh_varint.specs.Numbers.{Continues}
 use Rattle.bh_varint.proofs.Numbers.{number_to, number_from, number_dead, number_alive, number_opens}
 use Rattle.bh_fields.proofs.Strings.{line_of, name_goes_on, value_goes_on}

@@ -10,7 +10,8 @@ use Rattle.bh_spec.specs.Residuals.{IsResidual}
 use Rattle.bh_spec.specs.Readings.{reading, whole, refused}
 use Rattle.bh_fields.specs.Middle.{SectionView, Rest, stage_of, line_begun}
 use Rattle.bh_fields.specs.Bytewise.{IsLeft}
-use Rattle.bh_fields.specs.Points.{Point, point_of, RestOf, IsSized, ReadingAt}
+use Rattle.bh_fields.specs.Points.{Point, point_of, RestOf, IsSized}
+use Rattle.bh_fields.specs.States.{ReadingAt}
 
 abbrev pub view_at : Phase → Point → SectionView
 view_at phase p = record {

@@ -5,7 +5,9 @@ ghost use Rattle.bh_spec.specs.Bytes.{lower};
 ghost use Rattle.bh_spec.specs.Messages.{IsControlName};
 ghost use Rattle.bh_fields.specs.Names.{NameTakes, IsValueByte, flag_behind};
 ghost use Rattle.bh_fields.specs.Sets.{free_room};
-ghost use Rattle.bh_fields.specs.Points.{Point, point_of, RestOf, LinesAt, NamedAt, IsSized, IsFull, LengthState, NextState, LineState, NamedState, NameState, ValueLengthState, InValue, ValueState, ReadingAt, Moves, IsStep};
+ghost use Rattle.bh_fields.specs.Points.{Point, point_of, RestOf, LinesAt, NamedAt, IsSized};
+ghost use Rattle.bh_fields.specs.Stepping.{Moves, IsStep};
+ghost use Rattle.bh_fields.specs.States.{IsFull, LengthState, NextState, LineState, NamedState, NameState, ValueLengthState, InValue, ValueState, ReadingAt};
 
 use crate::sets::{Read, judge, length_set, name_set, value_set};
 use crate::walk::{Phase, Walk};

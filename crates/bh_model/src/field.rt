@@ -42,21 +42,21 @@ pub struct Fields {
 
 impl Model for Fields {
     ghost use Rattle.std.specs.Prelude.{◌≡◌, ◌≤◌, ◌+◌, ◌-◌, ◌*◌, ◌^◌, map, option_map, vec_len, vec_capacity};
-    ghost use Rattle.bh_model.specs.Lines.{FieldsView, cut, begun, begun_count, IsCut, IsBegun, lowered};
+    ghost use Rattle.bh_model.specs.Lines.{FieldsView, cut_lines, begun, begun_count, AscendFrom, IsBegun, lowered};
 
     ghost Value = { FieldsView };
 
     ghost view = { λ f. record {
-      lines = cut 0 f.ends.items f.bytes.items;
+      lines = cut_lines 0 f.ends.items f.bytes.items;
       making = begun f.ends.items f.bytes.items f.making;
       spare = f.room - (vec_len f.bytes + 2 * (vec_len f.ends + begun_count f.making));
       free = f.most - (vec_len f.ends + begun_count f.making);
     } };
 
     ghost invariant = { λ f. record {
-      ascends : IsCut 0 f.ends.items;
+      ascends : AscendFrom 0 f.ends.items;
       begins : IsBegun f.ends.items f.bytes.items f.making;
-      lower_case : map lowered (cut 0 f.ends.items f.bytes.items) ≡ cut 0 f.ends.items f.bytes.items;
+      lower_case : map lowered (cut_lines 0 f.ends.items f.bytes.items) ≡ cut_lines 0 f.ends.items f.bytes.items;
       begins_lower : option_map lowered (begun f.ends.items f.bytes.items f.making) ≡ begun f.ends.items f.bytes.items f.making;
       bytes : vec_len f.bytes + 2 * (vec_len f.ends + begun_count f.making) ≤ f.room;
       ends : vec_len f.ends + begun_count f.making ≤ f.most;

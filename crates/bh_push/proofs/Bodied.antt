@@ -4,7 +4,7 @@ use Rattle.std.proofs.Math.Seq.{take-length}
 use Rattle.bh_spec.specs.declared.Form.{Form}
 use Rattle.bh_spec.specs.declared.Part.{Part}
 use Rattle.bh_spec.specs.Bounds.{Bounds, no_bounds}
-use Rattle.bh_spec.specs.Pieces.{SomeOf, CanBecome, IsNext, IsRefused, IsDead, IsLimit}
+use Rattle.bh_spec.specs.Pieces.{SomeOf, CanBecome, IsRefused, IsDead, IsLimit}
 use Rattle.bh_spec.specs.Texts.{Text, bytes_of}
 use Rattle.bh_model.specs.declared.field.Place.TheVariants.{Trailer}
 use Rattle.bh_fields.specs.Middle.{SectionView, begun_view, Rest as section_rest}

@@ -29,7 +29,7 @@ use Rattle.bh_push.specs.declared.course.Stepped.TheVariants as stepped
 use Rattle.bh_push.specs.Completing.{AfterStart, InterimRest, ResponseRest}
 use Rattle.bh_push.specs.Decoders.{At, Rest, in_status, in_interim, before_header}
 use Rattle.bh_push.specs.Standing.{Comes, IsLeastStatus}
-use Rattle.bh_push.specs.Courses.{IsSilent, Halts, IsSection, head_of, at_by, place_of, zeros_of, IsCounted, IsCourse, IsOpenBy, IsOpen, Says, FollowsInterim, FollowsFinal}
+use Rattle.bh_push.specs.Courses.{IsSilent, Halts, head_of, at_by, place_of, zeros_of, IsCounted, IsCourse, IsOpenBy, IsOpen, Says, FollowsInterim, FollowsFinal}
 use Rattle.bh_push.proofs.Courses.{SectionShows, stays_in, halts_at, halts_here, refused_on, same_lines_shown, whole_lines, taken_of, dead_of, limit_of, dead_in, limit_in, keeps, open_by, moves_at, section_on, whole_some, same_lines, free_lines}
 use Rattle.bh_push.proofs.Requesting.{take_one, counted_nil, least_few}
 use Rattle.bh_push.proofs.Requests.{after_start, response_some, interim_whole}

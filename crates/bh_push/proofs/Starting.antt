@@ -12,7 +12,7 @@ use Rattle.bh_spec.specs.Sections.{IsSection}
 use Rattle.bh_spec.specs.Tails.{IsTail}
 use Rattle.bh_spec.specs.Spelling.{IsStartText, framing}
 use Rattle.bh_spec.specs.Items.{Item, Head, of_request, of_response, head, start_items, tail_items, MessageOf}
-use Rattle.bh_spec.specs.Runs.{IsStart as IsStartOf}
+use Rattle.bh_spec.specs.Runs.{IsMessageStart}
 use Rattle.bh_push.specs.Completing.{AfterStart, interim_item, AfterFraming, MessageRest}
 use Rattle.bh_push.specs.Decoders.{Rest, in_framing}
 use Rattle.bh_push.proofs.Tails.{TailOf, none_before, tail_to, tail_from}
@@ -106,5 +106,5 @@ message_from L q t y = at y.thing y.spelled y.behind y.items
         (y.text, y.rest, number, (c.text, c.rest, (subst (IsWithin L.interims) (none_before (length c.thing.0)) o.few, o.spelled), (a.text, a.rest, a.spelled.0, tail.spelled, a.joined), c.joined), y.joined)
 
 -- the start is where no byte of the framing number came
-pub start_is : IsStartOf Rest (in_framing [])
+pub start_is : IsMessageStart Rest (in_framing [])
 start_is = record { forth = λ L q t h. message_from L q t h; back = λ L q t h. message_to L q t h }

@@ -1,6 +1,6 @@
 -- What completes a message, from left to right, and what it yields. Behind the bytes of a number that was begun, a text completes
 -- what the number's whole text would.
-use Rattle.std.specs.Prelude.{ℕ, ◌≡◌, ◌<◌, ◌≤◌, ◌⊎◌, ◌+◌, List, [], ◌∷◌, length, map, All, replicate}
+use Rattle.std.specs.Prelude.{ℕ, ◌≡◌, ◌<◌, ◌⊎◌, ◌+◌, List, [], ◌∷◌, length, map, All, replicate}
 use Rattle.std.specs.List.{concat}
 use Rattle.bh_spec.specs.declared.Part.TheVariants as parts
 use Rattle.bh_spec.specs.declared.Form.{Form}

@@ -9,7 +9,8 @@ use Rattle.bh_spec.specs.Texts.{Text, mark}
 use Rattle.bh_model.specs.declared.field.Place.TheVariants.{Header}
 use Rattle.bh_fields.specs.Sections.{SectionOf}
 use Rattle.bh_fields.specs.Middle.{SectionView, Rest as section_rest}
-use Rattle.bh_control.specs.Phases.{Read, Rest as control_rest}
+use Rattle.bh_control.specs.Phases.{Read}
+use Rattle.bh_control.specs.Grammar.{Rest as control_rest}
 use Rattle.bh_spec.specs.Items.{Item, Head}
 use Rattle.bh_push.specs.Completing.{MessageRest, RequestRest, ResponseRest, InterimRest, AfterStart, HeaderRest, TailRest, BodyRest, ContentRest, AfterContent, TrailersRest, PaddingRest}
 

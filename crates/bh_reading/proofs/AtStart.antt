@@ -16,7 +16,7 @@ use Rattle.bh_push.proofs.Starting.{start_is}
 use Rattle.bh_stream.specs.Outputs.{written}
 use Rattle.bh_stream.specs.Jobs.{Owing}
 use Rattle.bh_stream.specs.Formats.{Knows}
-use Rattle.bh_reading.specs.Readings.{Counted, rest, room, IsStart, IsReady}
+use Rattle.bh_reading.specs.Readings.{Counted, rest, room, IsAtStart, IsReady}
 use Rattle.bh_reading.specs.ReadingLaws.{room_at}
 
 -- some message is within the limits
@@ -25,7 +25,7 @@ some_message L limits =
     (framing_alive L 1 [] (subst (λ (K : Bounds). IsWithin K.part 5) (sym limits.same) (omega (arith, limits.range.part_low))) (omega arith)).1
     (1, One, (omega arith, ([], refl)), inr ((omega arith, omega arith), tt))
 
-module _ (L : Bounds) (limits : AreLimits L) (v : Counted) (start : IsStart L v) where
+module _ (L : Bounds) (limits : AreLimits L) (v : Counted) (start : IsAtStart L v) where
   at_start : (q : List Item) (t : Text) → MessageOf L q t → rest v q t
   at_start q t h =
       subst (λ (d : DecoderView). rest_at d.limits d.at q t) (sym start.decoder) (start_is.back L q t h)

@@ -8,14 +8,14 @@ use Rattle.bh_model.specs.Ranges.{AreLimits}
 use Rattle.bh_stream.specs.Runs.{Streams}
 use Rattle.bh_stream.specs.declared.streaming.End.{End}
 use Rattle.bh_stream.proofs.Calls.{stream_call}
-use Rattle.bh_reading.specs.Readings.{Counted, rest, room, Moved, IsStart, refuses, tells, misses}
+use Rattle.bh_reading.specs.Readings.{Counted, rest, room, Moved, IsAtStart, refuses, tells, misses}
 use Rattle.bh_reading.specs.Checks.{CheckCall}
 use Rattle.bh_reading.specs.ReadingLaws.{reading_laws}
 use Rattle.bh_reading.proofs.Counts.{few_counts}
 use Rattle.bh_reading.proofs.Judging.{reading_judges}
 use Rattle.bh_reading.proofs.AtStart.{knows_at_start}
 
-pub checked : (L : Bounds) → AreLimits L → (v : Counted) → IsStart L v → {S : Type 0} {read write : S → Step → S → Type 0} {s t : S} (r : End Summary Refusal)
+pub checked : (L : Bounds) → AreLimits L → (v : Counted) → IsAtStart L v → {S : Type 0} {read write : S → Step → S → Type 0} {s t : S} (r : End Summary Refusal)
     → Streams rest room Moved refuses tells misses false 0 read write v (λ q. []) s r t → CheckCall L read write s r t
 checked L limits v start r h = record {
   steps = h.steps;

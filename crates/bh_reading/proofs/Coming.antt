@@ -10,7 +10,7 @@ use Rattle.bh_spec.specs.Texts.{Text}
 use Rattle.bh_spec.specs.Items.{Item, start_items, tail_items, MessageOf, content_byte}
 use Rattle.bh_spec.proofs.Fitting.{fits_where_spelled}
 use Rattle.bh_model.specs.Ranges.{AreLimits}
-use Rattle.bh_reading.specs.Readings.{Counted, rest, IsStart as IsAtStart}
+use Rattle.bh_reading.specs.Readings.{Counted, rest, IsAtStart}
 use Rattle.bh_reading.specs.Coming.{TailComes, MessageComes}
 use Rattle.bh_reading.proofs.AtStart.{from_start}
 

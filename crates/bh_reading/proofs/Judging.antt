@@ -25,7 +25,7 @@ use Rattle.bh_push.proofs.Cuts.{one_answer_for_every_cut}
 use Rattle.bh_stream.specs.Decoding.{content_items}
 use Rattle.bh_stream.specs.Calls.{IsOfByte, IsOfEnd, Judges}
 use Rattle.bh_stream.proofs.Moving.{items-append}
-use Rattle.bh_reading.specs.Readings.{Counted, rest, lines_in, kind_behind, Moved, IsStart, refuses, misses, tells}
+use Rattle.bh_reading.specs.Readings.{Counted, rest, lines_in, kind_behind, Moved, IsAtStart, refuses, misses, tells}
 use Rattle.bh_reading.specs.ReadingLaws.{lines-append, kind-append}
 
 -- ---- what the items of a message count
@@ -89,7 +89,7 @@ message_kind m o z kind =
 
 -- ---- the answers
 
-module _ (L : Bounds) (few : (m : Message) (o : Omitted) (z : ℕ) (bytes : List ℕ) → IsAnswer L bytes (whole m o z) → (line_count m ≤ 2 ^ 40) × (length m.content ≤ 2 ^ 40)) (v : Counted) (start : IsStart L v) where
+module _ (L : Bounds) (few : (m : Message) (o : Omitted) (z : ℕ) (bytes : List ℕ) → IsAnswer L bytes (whole m o z) → (line_count m ≤ 2 ^ 40) × (length m.content ≤ 2 ^ 40)) (v : Counted) (start : IsAtStart L v) where
   limits_at : v.held.decoder.limits ≡ L
   limits_at = ap (λ (d : DecoderView). d.limits) start.decoder
 

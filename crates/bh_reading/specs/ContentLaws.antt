@@ -14,11 +14,12 @@ use Rattle.bh_spec.specs.Bounds.{Bounds}
 use Rattle.bh_spec.specs.Messages.{Field, Control, Interim}
 use Rattle.bh_spec.specs.Texts.{Text, mark, content_in, IsNumber, AreEach, IsString}
 use Rattle.bh_spec.specs.Sections.{IsLine, IsSection}
-use Rattle.bh_spec.specs.Spelling.{IsRequest, IsInterimText}
+use Rattle.bh_spec.specs.Spelling.{IsRequestControl, IsInterimText}
 use Rattle.bh_spec.specs.Yields.{Yields}
 use Rattle.bh_spec.specs.Items.{Item, content_byte, Head}
 use Rattle.bh_spec.proofs.Marks.{content-append}
 use Rattle.bh_control.specs.Phases as control
+use Rattle.bh_control.specs.Grammar as control_grammar
 use Rattle.bh_control.specs.declared.progress.Phase.{Phase as ControlPhase}
 use Rattle.bh_control.specs.declared.progress.Phase.TheVariants as control_phases
 use Rattle.bh_control.specs.declared.strings.Place.{Place}
@@ -182,7 +183,7 @@ part_plain Authority = refl
 part_plain Path = refl
 
 has_none : (K : Bounds) (place : Place) (c : Control) (A : Text → Type 0) → ((t : Text) → A t → content_in t ≡ 0) → (t : Text)
-    → control.HasString K place c A t → content_in t ≡ 0
+    → control_grammar.HasString K place c A t → content_in t ≡ 0
 has_none K place c A more t h =
     omega (
       arith,
@@ -192,22 +193,22 @@ has_none K place c A more t h =
       more h.rest h.behind,
     )
 
-nothing_none : (t : Text) → control.BehindPath t → content_in t ≡ 0
+nothing_none : (t : Text) → control_grammar.BehindPath t → content_in t ≡ 0
 nothing_none t h = ap content_in h
 
-authority_none : (K : Bounds) (c : Control) (t : Text) → control.BehindAuthority K c t → content_in t ≡ 0
-authority_none K c t h = has_none K Path c control.BehindPath nothing_none t h
+authority_none : (K : Bounds) (c : Control) (t : Text) → control_grammar.BehindAuthority K c t → content_in t ≡ 0
+authority_none K c t h = has_none K Path c control_grammar.BehindPath nothing_none t h
 
-scheme_none : (K : Bounds) (c : Control) (t : Text) → control.BehindScheme K c t → content_in t ≡ 0
-scheme_none K c t h = has_none K Authority c (control.BehindAuthority K c) (authority_none K c) t h
+scheme_none : (K : Bounds) (c : Control) (t : Text) → control_grammar.BehindScheme K c t → content_in t ≡ 0
+scheme_none K c t h = has_none K Authority c (control_grammar.BehindAuthority K c) (authority_none K c) t h
 
-behind_none : (K : Bounds) (place : Place) (c : Control) (t : Text) → control.Behind K place c t → content_in t ≡ 0
+behind_none : (K : Bounds) (place : Place) (c : Control) (t : Text) → control_grammar.Behind K place c t → content_in t ≡ 0
 behind_none K Path c t h = nothing_none t h
 behind_none K Authority c t h = authority_none K c t h
 behind_none K Scheme c t h = scheme_none K c t h
-behind_none K Method c t h = has_none K Scheme c (control.BehindScheme K c) (scheme_none K c) t h
+behind_none K Method c t h = has_none K Scheme c (control_grammar.BehindScheme K c) (scheme_none K c) t h
 
-left_none : (K : Bounds) (place : Place) (c : Control) (kept : List ℕ) (left : ℕ) (t : Text) → control.HasRest K place c kept left t
+left_none : (K : Bounds) (place : Place) (c : Control) (kept : List ℕ) (left : ℕ) (t : Text) → control_grammar.HasRest K place c kept left t
     → content_in t ≡ 0
 left_none K place c kept left t h = omega (
   arith,
@@ -216,20 +217,20 @@ left_none K place c kept left t h = omega (
   behind_none K place c h.rest h.behind,
 )
 
-control_none : (K : Bounds) (phase : ControlPhase) (r : control.Read) (c : Control) (t : Text) → control.RestAt K phase r c t
+control_none : (K : Bounds) (phase : ControlPhase) (r : control.Read) (c : Control) (t : Text) → control_grammar.RestAt K phase r c t
     → content_in t ≡ 0
 control_none K control_phases.Idle r c t h = absurd h
 control_none K (control_phases.Length place) r c t h =
     omega (
       arith,
       behind (control.long_of place) (long_plain place) r.begun t,
-      has_none K place c (control.Behind K place c) (behind_none K place c) (mark (control.long_of place) r.begun ++ t) h.2,
+      has_none K place c (control_grammar.Behind K place c) (behind_none K place c) (mark (control.long_of place) r.begun ++ t) h.2,
     )
 control_none K (control_phases.Bytes place left) r c t h = left_none K place c (control.string_at place r.control) left t h.2
 control_none K control_phases.Whole r c t h = ap content_in h.2
 control_none K control_phases.Refused r c t h = absurd h
 
-pub request_none : (L : Bounds) (c : Control) (t : Text) → IsRequest L c t → content_in t ≡ 0
+pub request_none : (L : Bounds) (c : Control) (t : Text) → IsRequestControl L c t → content_in t ≡ 0
 request_none L c t h =
     let a = h.text in
     let b = a.3 in
@@ -401,7 +402,7 @@ content_of_rest L (in_framing begun) q t h = omega (
   behind parts.Framing refl begun t,
   message_count L q (mark parts.Framing begun ++ t) h,
 )
-content_of_rest L (in_control form read) q t h = request_count L form (control.Rest L read) (λ c u k. control_none L read.phase read c
+content_of_rest L (in_control form read) q t h = request_count L form (control_grammar.Rest L read) (λ c u k. control_none L read.phase read c
     u k) q t h
 content_of_rest L (in_status form before begun) q t h = omega (
   arith,

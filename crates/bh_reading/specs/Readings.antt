@@ -111,7 +111,7 @@ tells v omitted padding s = s ≡ record {
 }
 
 -- a decoder at the start of a message within the limits
-pub record IsStart (L : Bounds) (v : Counted) : Type 0 where
+pub record IsAtStart (L : Bounds) (v : Counted) : Type 0 where
   pub decoder : v.held.decoder ≡ start_view L
   pub lines : v.lines ≡ 0
   pub content : v.content ≡ 0

@@ -1,7 +1,7 @@
 //! The decoder of a call, with what is counted for the summary.
 ghost use Rattle.std.specs.Prelude.{◌≡◌, ◌+◌, IfOk, IfSome, length};
 ghost use Rattle.bh_push.specs.Hands.{kind_of_head};
-ghost use Rattle.bh_reading.specs.Readings.{IsStart, count};
+ghost use Rattle.bh_reading.specs.Readings.{IsAtStart, count};
 
 use bh_base::NoMemory;
 use bh_model::{Kind, Limits, Refusal, Summary};
@@ -30,7 +30,7 @@ impl Model for Reading {
 impl Reading {
     /// A decoder at the start of a message, with all the memory that it needs.
     pub fn new(alloc: Global, limits: &Limits) -> Result<Reading, NoMemory>
-        ensures { IfOk result (λ reading. IsStart limits.now reading) }
+        ensures { IfOk result (λ reading. IsAtStart limits.now reading) }
     {
         let decoder = Decoder::new(alloc, limits)?;
         Ok(Reading {
@@ -43,7 +43,7 @@ impl Reading {
 
     /// Returns to the start of a message.
     pub fn begin(&mut self)
-        ensures { IsStart self.old.held.decoder.limits self.new }
+        ensures { IsAtStart self.old.held.decoder.limits self.new }
     {
         self.decoder.begin();
         self.lines = 0;

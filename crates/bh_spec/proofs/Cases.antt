@@ -13,7 +13,7 @@ use Rattle.bh_spec.specs.Messages.{Field, IsToken, IsScheme, IsControl, IsRegula
 use Rattle.bh_spec.specs.Texts.{Text, mark, IsNumber, IsString}
 use Rattle.bh_spec.specs.Sections.{IsLinesWithin, IsSection}
 use Rattle.bh_spec.specs.Tails.{IsBody}
-use Rattle.bh_spec.specs.Spelling.{IsRequest, Spells}
+use Rattle.bh_spec.specs.Spelling.{IsRequestControl, Spells}
 use Rattle.bh_spec.specs.Cases.{get, field_a, field_b, TailLeftOut, PaddingCounted, UpperCaseName, FramingInFourBytes, TrailersLeftOut, InterimResponse, PseudoField, InputTooLong, IntegerVectors, IntegerBoundaries}
 use Rattle.bh_spec.proofs.Within.{no_lines, no_headers}
 
@@ -67,7 +67,7 @@ request_text = (mark parts.MethodLength (3 ∷ []) ++ mark parts.Method (codes "
 abbrev with_input : Option ℕ → Bounds
 with_input limit = record { part = Some 8192; section = Some 65536; interims = Some 16; input = limit }
 
-request_under : (limit : Option ℕ) → IsRequest (with_input limit) (record { method = codes "GET"; scheme = codes "https"; authority = []; path = codes "/" }) request_text
+request_under : (limit : Option ℕ) → IsRequestControl (with_input limit) (record { method = codes "GET"; scheme = codes "https"; authority = []; path = codes "/" }) request_text
 request_under limit = record {
   scheme = codes "https";
   same_scheme = refl;
@@ -90,7 +90,7 @@ request_under limit = record {
   path_within = omega arith;
 }
 
-pub request_spelled : IsRequest default_bounds (record { method = codes "GET"; scheme = codes "https"; authority = []; path = codes "/" }) request_text
+pub request_spelled : IsRequestControl default_bounds (record { method = codes "GET"; scheme = codes "https"; authority = []; path = codes "/" }) request_text
 request_spelled = request_under (Some (2 ^ 40))
 
 empty_under : (limit : Option ℕ) → IsSection (with_input limit) Known [] (mark parts.SectionLength (0 ∷ []))
@@ -324,7 +324,7 @@ post_text = (mark parts.MethodLength (4 ∷ []) ++ mark parts.Method (codes "POS
     ++ ((mark parts.SchemeLength (5 ∷ []) ++ mark parts.Scheme (codes "https"))
     ++ ((mark parts.AuthorityLength (0 ∷ []) ++ []) ++ (mark parts.PathLength (1 ∷ []) ++ mark parts.Path (codes "/"))))
 
-post_spelled : IsRequest default_bounds (record { method = codes "POST"; scheme = codes "https"; authority = []; path = codes "/" }) post_text
+post_spelled : IsRequestControl default_bounds (record { method = codes "POST"; scheme = codes "https"; authority = []; path = codes "/" }) post_text
 post_spelled = record {
   scheme = codes "https";
   same_scheme = refl;

@@ -9,7 +9,7 @@ use Rattle.bh_spec.specs.Messages.{Field, Control, Interim, Start, request, resp
 use Rattle.bh_spec.specs.Texts.{Text, AreEach}
 use Rattle.bh_spec.specs.Sections.{IsLinesWithin, IsSection}
 use Rattle.bh_spec.specs.Tails.{IsTail}
-use Rattle.bh_spec.specs.Spelling.{IsRequest, IsInterimText, IsStartText}
+use Rattle.bh_spec.specs.Spelling.{IsRequestControl, IsInterimText, IsStartText}
 use Rattle.bh_spec.specs.Laws.{WithoutLimits}
 
 lines_anyway : (L : Bounds) (fs : List Field) (t : Text) → IsLinesWithin L fs t → IsLinesWithin no_bounds fs t
@@ -24,7 +24,7 @@ interims L form [] t h = h
 interims L form (i ∷ is) t h =
     (h.0, h.1, (h.2.0, h.2.1, h.2.2, section_anyway L form i.fields h.2.1 h.2.3, h.2.4), interims L form is h.1 h.3, h.4)
 
-pub request_anyway : (L : Bounds) (c : Control) (t : Text) → IsRequest L c t → IsRequest no_bounds c t
+pub request_anyway : (L : Bounds) (c : Control) (t : Text) → IsRequestControl L c t → IsRequestControl no_bounds c t
 request_anyway L c t h = record {
   scheme = h.scheme;
   same_scheme = h.same_scheme;

@@ -9,7 +9,7 @@ use Rattle.std.proofs.lemmas.List.{length-append}
 use Rattle.std.proofs.lemmas.List.Elements.{All-head, All-tail, All-nil, All-cons, All-append}
 use Rattle.bh_spec.specs.Bytes.{AreBytes}
 use Rattle.bh_spec.specs.declared.Allowed.{Allowed}
-use Rattle.bh_spec.specs.declared.Rest.{Rest}
+use Rattle.bh_spec.specs.declared.Remainder.{Remainder}
 use Rattle.bh_spec.specs.declared.Width.{Width}
 use Rattle.bh_spec.specs.declared.Width.TheVariants.{One, Two, Four, Eight}
 use Rattle.bh_spec.specs.Integers.{vi, limit_of, tag_of, byte_count, Leaves, IsAllowed, Begins, SomeBegins}
@@ -211,7 +211,7 @@ interval_to n b rest j g e low high =
 
 -- ---- which numbers of an interval are allowed
 
-left_from : (o : Option Rest) (bytes low high n : ℕ) → low ≤ n → n ≤ high → Leaves o bytes n → Left o bytes low high
+left_from : (o : Option Remainder) (bytes low high n : ℕ) → low ≤ n → n ≤ high → Leaves o bytes n → Left o bytes low high
 left_from None bytes low high n g h l = omega arith
 left_from (Some r) bytes low high n g h l =
     elim l.1 [
@@ -219,7 +219,7 @@ left_from (Some r) bytes low high n g h l =
       | inr s ↦ (omega (arith, l.0), inr (omega (arith, l.0, s.0, s.1), omega (arith, l.0, s.0, s.1)))
     ]
 
-left_to : (o : Option Rest) (bytes low high : ℕ) → Left o bytes low high → (n : ℕ) × (low ≤ n) × (n ≤ high) × Leaves o bytes n
+left_to : (o : Option Remainder) (bytes low high : ℕ) → Left o bytes low high → (n : ℕ) × (low ≤ n) × (n ≤ high) × Leaves o bytes n
 left_to None bytes low high l = (low, omega arith, l, tt)
 left_to (Some r) bytes low high l =
     elim l.1 [

@@ -14,7 +14,7 @@ use Rattle.bh_spec.specs.Answers.{whole, IsRefusedAt, IsAnswer}
 use Rattle.bh_spec.proofs.Pieces.{next_becomes}
 use Rattle.bh_spec.specs.Residuals.{IsResidual, HasSame}
 use Rattle.bh_spec.specs.Items.{Item, content_byte, ending, start_items, trailer_items, tail_items, items, MessageOf}
-use Rattle.bh_spec.specs.Runs.{Call, bytes_taken, items_yielded, state_behind, AreTaken, IsStart, Any, ItemsOfAMessage, ExactPlace}
+use Rattle.bh_spec.specs.Runs.{Call, bytes_taken, items_yielded, state_behind, AreTaken, IsMessageStart, Any, ItemsOfAMessage, ExactPlace}
 use Rattle.bh_spec.proofs.Residuals.{residual_on, residual_here, same_of, dead_same, limit_same}
 
 -- ---- the calls, joined
@@ -52,7 +52,7 @@ calls_anyway {V} Rest L v (call ∷ calls) h =
     (residual_on (Rest no_bounds v) (take call.taken call.piece) (λ q. call.yields ++ q) (Rest no_bounds call.behind) (bytes_taken calls) (λ q. items_yielded calls ++ q)
     (Rest no_bounds (state_behind call.behind calls)) h.0.anyway (calls_anyway Rest L call.behind calls h.1))
 
-from_start : {V : Type 0} (Rest : Bounds → V → List Item → Text → Type 0) (v : V) → IsStart Rest v → (K : Bounds) (bytes : List ℕ) (f : List Item → List Item) (S : List Item → Text → Type 0)
+from_start : {V : Type 0} (Rest : Bounds → V → List Item → Text → Type 0) (v : V) → IsMessageStart Rest v → (K : Bounds) (bytes : List ℕ) (f : List Item → List Item) (S : List Item → Text → Type 0)
     → IsResidual (Rest K v) bytes f S → IsResidual (MessageOf K) bytes f S
 from_start Rest v s K bytes f S r = record {
   text = r.text;
@@ -62,12 +62,12 @@ from_start Rest v s K bytes f S r = record {
 }
 
 -- from the start, the items are those of a message that the bytes spell
-pub items_of_a_message : {V : Type 0} (Rest : Bounds → V → List Item → Text → Type 0) (L : Bounds) (v : V) (calls : List (Call V)) → IsStart Rest v → AreTaken Rest L v calls
+pub items_of_a_message : {V : Type 0} (Rest : Bounds → V → List Item → Text → Type 0) (L : Bounds) (v : V) (calls : List (Call V)) → IsMessageStart Rest v → AreTaken Rest L v calls
     → ItemsOfAMessage Rest L v calls
 items_of_a_message Rest L v calls s h =
     from_start Rest v s L (bytes_taken calls) (λ q. items_yielded calls ++ q) (Rest L (state_behind v calls)) (calls_within Rest L v calls h)
 
-pub items_anyway : {V : Type 0} (Rest : Bounds → V → List Item → Text → Type 0) (L : Bounds) (v : V) (calls : List (Call V)) → IsStart Rest v → AreTaken Rest L v calls
+pub items_anyway : {V : Type 0} (Rest : Bounds → V → List Item → Text → Type 0) (L : Bounds) (v : V) (calls : List (Call V)) → IsMessageStart Rest v → AreTaken Rest L v calls
     → IsResidual (MessageOf no_bounds) (bytes_taken calls) (λ q. items_yielded calls ++ q) (Rest no_bounds (state_behind v calls))
 items_anyway Rest L v calls s h =
     from_start Rest v s no_bounds (bytes_taken calls) (λ q. items_yielded calls ++ q) (Rest no_bounds (state_behind v calls)) (calls_anyway Rest L v calls h)
@@ -144,7 +144,7 @@ on_taken done piece after offset h =
     ap (λ (k : ℕ). take k (done ++ (piece ++ after))) (let e : length done + offset + 1 ≡ length done + (offset + 1) = omega arith in e)
     ∙ front_taken done piece after (offset + 1) (omega (arith, h))
 
-pub exact_place : {V : Type 0} (Rest : Bounds → V → List Item → Text → Type 0) (L : Bounds) (v : V) (calls : List (Call V)) → IsStart Rest v → AreTaken Rest L v calls
+pub exact_place : {V : Type 0} (Rest : Bounds → V → List Item → Text → Type 0) (L : Bounds) (v : V) (calls : List (Call V)) → IsMessageStart Rest v → AreTaken Rest L v calls
     → ExactPlace Rest L v calls
 exact_place {V} Rest L v calls s h = record {
   dead = λ piece after offset part within d.

@@ -14,7 +14,7 @@ use Rattle.bh_spec.specs.Messages.{Field, Control, Interim, Start, request, resp
 use Rattle.bh_spec.specs.Texts.{Text, mark, IsNumber, IsRun, ◌then◌, AreEach, IsString}
 use Rattle.bh_spec.specs.Sections.{IsSection}
 use Rattle.bh_spec.specs.Tails.{IsBody, IsTail}
-use Rattle.bh_spec.specs.Spelling.{IsRequest, IsInterimText, IsStartText, framing, Spells}
+use Rattle.bh_spec.specs.Spelling.{IsRequestControl, IsInterimText, IsStartText, framing, Spells}
 use Rattle.bh_spec.specs.Laws.{OneReading, OneNext}
 use Rattle.bh_spec.proofs.Meeting.{Meets, meets_map, meets_short, meets_long, meets_one, meets_next}
 use Rattle.bh_spec.proofs.Numbers.{number_meets}
@@ -44,15 +44,15 @@ short_long E R h t u r s = subst (λ (w : Text). Meets (Unit {0}) E w u) (sym r)
 nil_nil : (E : Type 0) → E → Agree (Unit {0}) E IsNil IsNil
 nil_nil E e t u r s = subst₂ (λ (v w : Text). Meets (Unit {0}) E v w) (sym r) (sym s) e
 
-abbrev Rest : Bounds → Form → List Field → ℕ → Text → Type 0
-Rest L form fs z t = (IsSection L form fs then IsRun parts.Padding (replicate z 0)) t
+abbrev SectionAndPadding : Bounds → Form → List Field → ℕ → Text → Type 0
+SectionAndPadding L form fs z t = (IsSection L form fs then IsRun parts.Padding (replicate z 0)) t
 
-rest_nonempty : (L : Bounds) (form : Form) (fs : List Field) (z : ℕ) (t : Text) → Rest L form fs z t → 0 < length t
-rest_nonempty L form fs z t h = then_nonempty (IsSection L form fs) (IsRun parts.Padding (replicate z 0)) t (section_nonempty L form fs) h
+both_nonempty : (L : Bounds) (form : Form) (fs : List Field) (z : ℕ) (t : Text) → SectionAndPadding L form fs z t → 0 < length t
+both_nonempty L form fs z t h = then_nonempty (IsSection L form fs) (IsRun parts.Padding (replicate z 0)) t (section_nonempty L form fs) h
 
-rest_agrees : (K L : Bounds) (form : Form) (fs gs : List Field) (y z : ℕ) → All IsNamed fs → All IsNamed gs
-    → Agree (Unit {0}) ((fs ≡ gs) × (y ≡ z)) (Rest K form fs y) (Rest L form gs z)
-rest_agrees K L form fs gs y z p q =
+both_agree : (K L : Bounds) (form : Form) (fs gs : List Field) (y z : ℕ) → All IsNamed fs → All IsNamed gs
+    → Agree (Unit {0}) ((fs ≡ gs) × (y ≡ z)) (SectionAndPadding K form fs y) (SectionAndPadding L form gs z)
+both_agree K L form fs gs y z p q =
     agree_then (Unit {0}) (fs ≡ gs) ((fs ≡ gs) × (y ≡ z)) (IsSection K form fs) (IsRun parts.Padding (replicate y 0)) (IsSection L form gs) (IsRun parts.Padding (replicate z 0))
     (section_agrees K L form fs gs p q)
     (λ e t u r s. subst₂ (λ (v w : Text). Meets (Unit {0}) ((fs ≡ gs) × (y ≡ z)) v w) (sym r) (sym s)
@@ -61,22 +61,22 @@ rest_agrees K L form fs gs y z p q =
 tail_agrees : (K L : Bounds) (form : Form) (c d : List ℕ) (fs gs : List Field) (o p : Omitted) (y z : ℕ) → All IsNamed fs → All IsNamed gs
     → Agree (Unit {0}) (SameTail c d fs gs o p y z) (IsTail K form c fs o y) (IsTail L form d gs p z)
 tail_agrees K L form c d fs gs Nothing Nothing y z v w t u r s =
-    agree_then (Unit {0}) (c ≡ d) (SameTail c d fs gs Nothing Nothing y z) (IsBody form c) (Rest K form fs y) (IsBody form d) (Rest L form gs z)
+    agree_then (Unit {0}) (c ≡ d) (SameTail c d fs gs Nothing Nothing y z) (IsBody form c) (SectionAndPadding K form fs y) (IsBody form d) (SectionAndPadding L form gs z)
     (body_agrees form c d)
-    (λ e. agree_map (Unit {0}) ((fs ≡ gs) × (y ≡ z)) (SameTail c d fs gs Nothing Nothing y z) (Rest K form fs y) (Rest L form gs z)
-    (λ f. (e, f.0, refl, f.1)) (rest_agrees K L form fs gs y z v w))
+    (λ e. agree_map (Unit {0}) ((fs ≡ gs) × (y ≡ z)) (SameTail c d fs gs Nothing Nothing y z) (SectionAndPadding K form fs y) (SectionAndPadding L form gs z)
+    (λ f. (e, f.0, refl, f.1)) (both_agree K L form fs gs y z v w))
     t u r s
 tail_agrees K L form c d fs gs Nothing Trailers y z v w t u r s =
     let E : Type 0 = SameTail c d fs gs Nothing Trailers y z in
-    agree_then (Unit {0}) (c ≡ d) E (IsBody form c) (Rest K form fs y) (IsBody form d) IsNil (body_agrees form c d)
-    (λ e. long_short E (Rest K form fs y) (rest_nonempty K form fs y)) t u r (alone (IsBody form d) u s.2)
+    agree_then (Unit {0}) (c ≡ d) E (IsBody form c) (SectionAndPadding K form fs y) (IsBody form d) IsNil (body_agrees form c d)
+    (λ e. long_short E (SectionAndPadding K form fs y) (both_nonempty K form fs y)) t u r (alone (IsBody form d) u s.2)
 tail_agrees K L form c d fs gs Nothing Both y z v w t u r s =
     let E : Type 0 = SameTail c d fs gs Nothing Both y z in
-    long_short E (IsBody form c then Rest K form fs y) (λ x. then_nonempty (IsBody form c) (Rest K form fs y) x (body_nonempty form c)) t u r s.3
+    long_short E (IsBody form c then SectionAndPadding K form fs y) (λ x. then_nonempty (IsBody form c) (SectionAndPadding K form fs y) x (body_nonempty form c)) t u r s.3
 tail_agrees K L form c d fs gs Trailers Nothing y z v w t u r s =
     let E : Type 0 = SameTail c d fs gs Trailers Nothing y z in
-    agree_then (Unit {0}) (c ≡ d) E (IsBody form c) IsNil (IsBody form d) (Rest L form gs z) (body_agrees form c d)
-    (λ e. short_long E (Rest L form gs z) (rest_nonempty L form gs z)) t u (alone (IsBody form c) t r.2) s
+    agree_then (Unit {0}) (c ≡ d) E (IsBody form c) IsNil (IsBody form d) (SectionAndPadding L form gs z) (body_agrees form c d)
+    (λ e. short_long E (SectionAndPadding L form gs z) (both_nonempty L form gs z)) t u (alone (IsBody form c) t r.2) s
 tail_agrees K L form c d fs gs Trailers Trailers y z v w t u r s =
     let E : Type 0 = SameTail c d fs gs Trailers Trailers y z in
     agree_then (Unit {0}) (c ≡ d) E (IsBody form c) IsNil (IsBody form d) IsNil (body_agrees form c d)
@@ -85,7 +85,7 @@ tail_agrees K L form c d fs gs Trailers Both y z v w t u r s =
     long_short (SameTail c d fs gs Trailers Both y z) (IsBody form c) (body_nonempty form c) t u r.2 s.3
 tail_agrees K L form c d fs gs Both Nothing y z v w t u r s =
     let E : Type 0 = SameTail c d fs gs Both Nothing y z in
-    short_long E (IsBody form d then Rest L form gs z) (λ x. then_nonempty (IsBody form d) (Rest L form gs z) x (body_nonempty form d)) t u r.3 s
+    short_long E (IsBody form d then SectionAndPadding L form gs z) (λ x. then_nonempty (IsBody form d) (SectionAndPadding L form gs z) x (body_nonempty form d)) t u r.3 s
 tail_agrees K L form c d fs gs Both Trailers y z v w t u r s =
     short_long (SameTail c d fs gs Both Trailers y z) (IsBody form d) (body_nonempty form d) t u r.3 s.2
 tail_agrees K L form c d fs gs Both Both y z v w t u r s =
@@ -115,7 +115,7 @@ control_is c d p q r s =
     ap (λ (x : List ℕ). control x c.scheme c.authority c.path) p ∙ ap (λ (x : List ℕ). control d.method x c.authority c.path) q
     ∙ ap (λ (x : List ℕ). control d.method d.scheme x c.path) r ∙ ap (λ (x : List ℕ). control d.method d.scheme d.authority x) s
 
-pub request_agrees : (K L : Bounds) (c d : Control) → Agree ⊥ (c ≡ d) (IsRequest K c) (IsRequest L d)
+pub request_agrees : (K L : Bounds) (c d : Control) → Agree ⊥ (c ≡ d) (IsRequestControl K c) (IsRequestControl L d)
 request_agrees K L c d t u r s =
     agree_then ⊥ (c.method ≡ d.method) (c ≡ d) (method c) (scheme r.scheme then authority c then path c) (method d) (scheme s.scheme then authority d then path d)
     (agree_string parts.MethodLength parts.Method c.method d.method)
@@ -163,7 +163,7 @@ interims_end K L form m n g h = record {
 
 pub start_agrees : (K L : Bounds) (form : Form) (a b : Start) → kind_of a ≡ kind_of b → IsStart a → IsStart b → Agree ⊥ (a ≡ b) (IsStartText K form a) (IsStartText L form b)
 start_agrees K L form (request c) (request d) k p q t u r s =
-    agree_map ⊥ (c ≡ d) (request c ≡ request d) (IsRequest K c) (IsRequest L d) (λ e. ap request e) (request_agrees K L c d) t u r s
+    agree_map ⊥ (c ≡ d) (request c ≡ request d) (IsRequestControl K c) (IsRequestControl L d) (λ e. ap request e) (request_agrees K L c d) t u r s
 start_agrees K L form (request c) (response js n) k p q t u r s = absurd cc
 start_agrees K L form (response is m) (request d) k p q t u r s = absurd cc
 start_agrees K L form (response is m) (response js n) k p q t u r s =

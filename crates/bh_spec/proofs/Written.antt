@@ -16,9 +16,9 @@ use Rattle.bh_spec.specs.Messages.{Field, Control, Interim, Start, request, resp
 use Rattle.bh_spec.specs.Texts.{Text, mark, bytes_of, IsNumber, IsRun, ◌then◌, AreEach, IsString}
 use Rattle.bh_spec.specs.Sections.{IsLine, IsLinesWithin, IsSection}
 use Rattle.bh_spec.specs.Tails.{IsBody, IsTail}
-use Rattle.bh_spec.specs.Spelling.{IsRequest, IsInterimText, IsStartText, framing}
+use Rattle.bh_spec.specs.Spelling.{IsRequestControl, IsInterimText, IsStartText, framing}
 use Rattle.bh_spec.specs.Viable.{SpellsBytes}
-use Rattle.bh_spec.specs.Canonical.{string, line, lines, section, cut, cut_within, body, interim, start, spelling, FieldsFit, ControlFits, StartFits, Fits, greatest, integers}
+use Rattle.bh_spec.specs.Canonical.{string, line, lines, section, cut, cut_within, spelled_content, interim, start, spelling, FieldsFit, ControlFits, StartFits, Fits, greatest, integers}
 use Rattle.bh_spec.specs.Laws.{CanonIsSpelled, KnownIsSpelled}
 use Rattle.bh_spec.specs.declared.Kind.{Kind}
 use Rattle.bh_spec.specs.declared.Kind.TheVariants.{Request, Response}
@@ -113,7 +113,7 @@ abbrev pub BodyFits : Form → List ℕ → Type 0
 BodyFits Known x = length x ≤ greatest
 BodyFits Indeterminate x = Unit {0}
 
-has_body : (form : Form) (x : List ℕ) → BodyFits form x → Has (IsBody form x) (body form x)
+has_body : (form : Form) (x : List ℕ) → BodyFits form x → Has (IsBody form x) (spelled_content form x)
 has_body Known x h = has_string parts.ContentLength parts.Content x h
 has_body Indeterminate x h =
     let pieces = cut_pieces (length x) x in
@@ -145,7 +145,7 @@ pub has_written_section : (L : Bounds) (form : Form) (fs : List Field) → Lines
 has_written_section L form fs h = has_section L form fs (all_written fs h.0 h.1.0) h.1.0.total h.1.1
 
 has_request : (L : Bounds) (c : Control) → lower c.scheme ≡ c.scheme → ControlFits integers c → ControlFits L c
-    → Has (IsRequest L c) (string c.method ++ (string c.scheme ++ (string c.authority ++ string c.path)))
+    → Has (IsRequestControl L c) (string c.method ++ (string c.scheme ++ (string c.authority ++ string c.path)))
 has_request L c low small fits =
     let a = has_string parts.MethodLength parts.Method c.method small.method in
     let b = has_string parts.SchemeLength parts.Scheme c.scheme small.scheme in
@@ -200,19 +200,19 @@ small_framing Response Indeterminate = omega arith
 -- what is written behind the framing number
 pub has_after : (L : Bounds) (form : Form) (m : Message) → IsValid m → Fits integers m → BodyFits form m.content → Fits L m
     → Has (IsStartText L form m.start then IsSection L form m.fields then IsTail L form m.content m.trailers Nothing 0)
-    (start form m.start ++ (section form m.fields ++ (body form m.content ++ section form m.trailers)))
+    (start form m.start ++ (section form m.fields ++ (spelled_content form m.content ++ section form m.trailers)))
 has_after L form m v small content fits =
     let b = has_start L form m.start v.start small.start fits.start in
     let c = has_written_section L form m.fields (headers_lower m.fields v.fields, (small.fields, fits.fields)) in
     let d = has_body form m.content content in
     let e = has_written_section L form m.trailers (trailers_lower m.trailers v.trailers, (small.trailers, fits.trailers)) in
     let f = has_then (IsSection L form m.trailers) (IsRun parts.Padding []) (section form m.trailers) [] e (has_run parts.Padding []) in
-    let tail : Has (IsTail L form m.content m.trailers Nothing 0) (body form m.content ++ section form m.trailers) =
-    has_then (IsBody form m.content) (IsSection L form m.trailers then IsRun parts.Padding []) (body form m.content) (section form m.trailers)
+    let tail : Has (IsTail L form m.content m.trailers Nothing 0) (spelled_content form m.content ++ section form m.trailers) =
+    has_then (IsBody form m.content) (IsSection L form m.trailers then IsRun parts.Padding []) (spelled_content form m.content) (section form m.trailers)
     d (f.0, f.1, f.2 ∙ append-nil (section form m.trailers)) in
-    let cd = has_then (IsSection L form m.fields) (IsTail L form m.content m.trailers Nothing 0) (section form m.fields) (body form m.content ++ section form m.trailers) c tail in
+    let cd = has_then (IsSection L form m.fields) (IsTail L form m.content m.trailers Nothing 0) (section form m.fields) (spelled_content form m.content ++ section form m.trailers) c tail in
     has_then (IsStartText L form m.start) (IsSection L form m.fields then IsTail L form m.content m.trailers Nothing 0)
-    (start form m.start) (section form m.fields ++ (body form m.content ++ section form m.trailers)) b cd
+    (start form m.start) (section form m.fields ++ (spelled_content form m.content ++ section form m.trailers)) b cd
 
 -- what is written is spelled, in both forms
 is_spelled : (L : Bounds) (form : Form) (m : Message) → IsValid m → Fits integers m → BodyFits form m.content → Fits L m → SpellsBytes L m Nothing 0 (spelling form m)
@@ -220,7 +220,7 @@ is_spelled L form m v small content fits =
     let k = kind_of m.start in
     let a = has_int parts.Framing (framing k form) (small_framing k form) in
     let all = has_then (IsNumber parts.Framing (framing k form)) (IsStartText L form m.start then IsSection L form m.fields then IsTail L form m.content m.trailers Nothing 0)
-    (int (framing k form)) (start form m.start ++ (section form m.fields ++ (body form m.content ++ section form m.trailers))) a (has_after L form m v small content fits) in
+    (int (framing k form)) (start form m.start ++ (section form m.fields ++ (spelled_content form m.content ++ section form m.trailers))) a (has_after L form m v small content fits) in
     record { text = all.0; spelled = record { valid = v; form = form; text = all.1 }; same = all.2 }
 
 pub canonical : CanonIsSpelled

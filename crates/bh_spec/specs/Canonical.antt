@@ -33,9 +33,9 @@ abbrev pub cut : ℕ → List ℕ → List (List ℕ)
 cut size bytes = cut_within (length bytes) size bytes
 
 -- canonical content stands in chunks of 8,192 bytes and a shorter last one
-abbrev pub body : Form → List ℕ → List ℕ
-body Known content = string content
-body Indeterminate content = flat_map string (cut 8192 content) ++ int 0
+abbrev pub spelled_content : Form → List ℕ → List ℕ
+spelled_content Known content = string content
+spelled_content Indeterminate content = flat_map string (cut 8192 content) ++ int 0
 
 abbrev pub interim : Form → Interim → List ℕ
 interim form i = int i.status ++ section form i.fields
@@ -46,7 +46,7 @@ start form (response interims status) = flat_map (interim form) interims ++ int 
 
 abbrev pub spelling : Form → Message → List ℕ
 spelling form m = int (framing (kind_of m.start) form)
-    ++ (start form m.start ++ (section form m.fields ++ (body form m.content ++ section form m.trailers)))
+    ++ (start form m.start ++ (section form m.fields ++ (spelled_content form m.content ++ section form m.trailers)))
 
 -- the canonical text: of indeterminate length
 abbrev pub canon : Message → List ℕ

@@ -4,7 +4,7 @@ use Rattle.std.specs.Int.{bytes_high_first}
 use Rattle.bh_spec.specs.declared.Width.{Width}
 use Rattle.bh_spec.specs.declared.Width.TheVariants.{One, Two, Four, Eight}
 use Rattle.bh_spec.specs.declared.Span.{Span}
-use Rattle.bh_spec.specs.declared.Rest.{Rest}
+use Rattle.bh_spec.specs.declared.Remainder.{Remainder}
 use Rattle.bh_spec.specs.declared.Allowed.{Allowed}
 
 abbrev pub byte_count : Width → ℕ
@@ -41,7 +41,7 @@ abbrev pub IsIn : Span → ℕ → Type 0
 IsIn span x = (span.low ≤ x) × (x ≤ span.high)
 
 -- what a number of so many bytes leaves of a room
-abbrev pub Leaves : Option Rest → ℕ → ℕ → Type 0
+abbrev pub Leaves : Option Remainder → ℕ → ℕ → Type 0
 Leaves None bytes n = Unit {0}
 Leaves (Some rest) bytes n = (bytes + n ≤ rest.room)
     × ((IsTrue rest.zero × (rest.room - bytes - n ≡ 0)) ⊎ IsIn rest.span (rest.room - bytes - n))

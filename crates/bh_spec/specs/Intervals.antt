@@ -2,7 +2,7 @@
 use Rattle.std.specs.Prelude.{ℕ, ◌≡◌, ◌≤◌, ◌⊎◌, ◌+◌, ◌-◌, ◌*◌, ◌^◌, ◌%◌, min, max, IsTrue, nat_lt, if◌then◌else◌, List, [], ◌∷◌, length, Option, Some, None}
 use Rattle.bh_spec.specs.declared.Width.{Width}
 use Rattle.bh_spec.specs.declared.Width.TheVariants.{One, Two, Four, Eight}
-use Rattle.bh_spec.specs.declared.Rest.{Rest}
+use Rattle.bh_spec.specs.declared.Remainder.{Remainder}
 use Rattle.bh_spec.specs.declared.Allowed.{Allowed}
 use Rattle.bh_spec.specs.Integers.{byte_count}
 
@@ -24,7 +24,7 @@ abbrev pub least_begun : ℕ → List ℕ → ℕ
 least_begun byte rest = big ((byte % 64) ∷ rest) * 256 ^ missing byte rest
 
 -- some number from low to high is allowed in so many bytes
-abbrev pub Left : Option Rest → ℕ → ℕ → ℕ → Type 0
+abbrev pub Left : Option Remainder → ℕ → ℕ → ℕ → Type 0
 Left None bytes low high = low ≤ high
 Left (Some rest) bytes low high = (bytes ≤ rest.room)
     × ((IsTrue rest.zero × (low ≤ rest.room - bytes) × (rest.room - bytes ≤ high))

@@ -48,7 +48,7 @@ AreTaken Rest L v [] = Unit {0}
 AreTaken Rest L v (call ∷ calls) = Takes Rest L v call.piece call.taken call.yields call.behind × AreTaken Rest L call.behind calls
 
 -- from the state v whole messages are read
-pub record IsStart {V : Type 0} (Rest : Bounds → V → List Item → Text → Type 0) (v : V) : Type 0 where
+pub record IsMessageStart {V : Type 0} (Rest : Bounds → V → List Item → Text → Type 0) (v : V) : Type 0 where
   pub forth : (L : Bounds) (q : List Item) (t : Text) → Rest L v q t → MessageOf L q t
   pub back : (L : Bounds) (q : List Item) (t : Text) → MessageOf L q t → Rest L v q t
 

@@ -14,7 +14,7 @@ use Rattle.bh_spec.specs.declared.Form.TheVariants.{Known, Indeterminate}
 use Rattle.bh_spec.specs.declared.Omitted.{Omitted}
 
 -- The control data of a request: four strings, the scheme in any case of letters.
-pub record IsRequest (L : Bounds) (c : Control) (t : Text) : Type 0 where
+pub record IsRequestControl (L : Bounds) (c : Control) (t : Text) : Type 0 where
   pub scheme : List ℕ
   pub same_scheme : lower scheme ≡ c.scheme
   pub text : (IsString parts.MethodLength parts.Method c.method
@@ -32,7 +32,7 @@ IsInterimText L form interim t = (IsNumber parts.Status interim.status then IsSe
 
 -- The interim responses, and the control data.
 abbrev pub IsStartText : Bounds → Form → Start → Text → Type 0
-IsStartText L form (request control) t = IsRequest L control t
+IsStartText L form (request control) t = IsRequestControl L control t
 IsStartText L form (response interims status) t = IsWithin L.interims (length interims)
     × (AreEach (IsInterimText L form) interims then IsNumber parts.Status status) t
 

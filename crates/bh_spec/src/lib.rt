@@ -111,7 +111,7 @@ pub struct Span {
 /// What a number may leave of a room of so many bytes, in which it stands with the bytes that it counts: nothing where
 /// `zero` is set, or a number in the span.
 #[derive(Clone, Copy, Debug, PartialEq, Eq)]
-pub struct Rest {
+pub struct Remainder {
     pub room: u64,
     pub zero: bool,
     pub span: Span,
@@ -122,7 +122,7 @@ pub struct Rest {
 pub struct Allowed {
     pub zero: bool,
     pub span: Span,
-    pub rest: Option<Rest>,
+    pub rest: Option<Remainder>,
 }
 
 /// Whether a message is a request or a response.

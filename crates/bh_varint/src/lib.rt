@@ -12,7 +12,7 @@ ghost use Rattle.bh_spec.specs.Canonical.{greatest};
 ghost use Rattle.bh_varint.specs.Begun.{bytes_begun, IsStored, IsShort, Reads, first_open, last_open};
 ghost use Rattle.bh_varint.specs.Step.{IsWhole, IsUnfinished, GoesOn, Shows, bytes_kept};
 
-pub use bh_spec::{Allowed, Rest, Span, Width};
+pub use bh_spec::{Allowed, Remainder, Span, Width};
 use std::marker::Model;
 
 /// The greatest integer, 2^62 - 1 (RFC 9000, section 16).
@@ -81,7 +81,7 @@ fn shown_width(byte: u8) -> Width
 }
 
 /// Whether a number from `low` to `high`, in so many bytes, leaves what it may.
-fn leaves(rest: Option<Rest>, bytes: u64, low: u64, high: u64) -> bool
+fn leaves(rest: Option<Remainder>, bytes: u64, low: u64, high: u64) -> bool
     ensures { IsTrue result ↔ Left rest bytes low high }
 {
     match rest {

@@ -13,7 +13,7 @@ mod writing;
 
 pub use field_lines::{fill_fields, parse_fields};
 pub use h1_spec::Framing1;
-pub use head::{Head1, HeadWhy, Start, parse_head};
+pub use head::{Head1, HeadWhy, StartLine, parse_head};
 pub use laws::{one_step, read_back, reads_alike, written_is_a_head};
 pub use reader::{HeadReader, HeadStep};
 pub use writing::{put_section, write_request_head, write_response_head};

@@ -15,14 +15,14 @@ fn shown(alloc: Global, bytes: &[u8]) -> Result<Vec<u8>, HeadWhy> {
     Ok(text)
 }
 
-fn show_start(text: &mut Vec<u8>, start: &Start) -> Result<(), AllocError> {
+fn show_start(text: &mut Vec<u8>, start: &StartLine) -> Result<(), AllocError> {
     match start {
-        Start::Request { method, target } => {
+        StartLine::Request { method, target } => {
             text.extend_from_slice(method.as_slice())?;
             text.extend_from_slice(b" ")?;
             text.extend_from_slice(target.as_slice())
         }
-        Start::Response { status } => text.extend_from_slice(&status.to_be_bytes()),
+        StartLine::Response { status } => text.extend_from_slice(&status.to_be_bytes()),
     }
 }
 

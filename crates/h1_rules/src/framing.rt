@@ -9,7 +9,7 @@ ghost use Rattle.h1_rules.specs.Framed.{IsFinal, IsFramingAnswer, IsCodingAnswer
 
 use crate::lines::{Only, only_value};
 use bh_model::{Fields, H1Why};
-use h1_head::{Framing1, Head1, Start};
+use h1_head::{Framing1, Head1, StartLine};
 
 /// How the body behind a request's head, or a final response's, ends. `to_head`: the response answers HEAD. `Coding`: the
 /// coding is another than `chunked` alone; else `Length`: there are several lengths, or one of other than 1 to 18 digits
@@ -108,22 +108,22 @@ fn value_of(digit: u8) -> u64
 
 /// Whether there is no body, whatever the fields say: of a response that answers HEAD, or with a status of 204 or 304 (RFC 9110,
 /// sections 9.3.2, 15.3.5 and 15.4.5).
-fn is_empty(start: &Start, to_head: bool) -> bool
+fn is_empty(start: &StartLine, to_head: bool) -> bool
     ensures { result ≡ is_empty_by to_head (line_of start.now) }
 {
     match start {
-        Start::Request { .. } => false,
-        Start::Response { status } => to_head || *status == 204 || *status == 304,
+        StartLine::Request { .. } => false,
+        StartLine::Response { status } => to_head || *status == 204 || *status == 304,
     }
 }
 
 /// The body where the fields say none.
-fn otherwise(start: &Start) -> Framing1
+fn otherwise(start: &StartLine) -> Framing1
     ensures { result ≡ unsaid (line_of start.now) }
 {
     match start {
-        Start::Request { .. } => Framing1::Empty,
-        Start::Response { .. } => Framing1::ToEnd,
+        StartLine::Request { .. } => Framing1::Empty,
+        StartLine::Response { .. } => Framing1::ToEnd,
     }
 }
 

@@ -289,13 +289,13 @@ own_method scheme method target control (inr (inl p)) = sym (ap (λ (c : Control
 own_method scheme method target control (inr (inr p)) = sym (ap (λ (c : Control). c.method) p.gives)
 
 -- the head of a request, or of a final response, with the rest of the input
-abbrev Ends : Bounds → Scheme1 → Bool → List Interim → Head → List ℕ → Type 0
-Ends L scheme to_head is h y = (start : Start) (content : List ℕ) (fs : List Field) → interims_of start ≡ is → IsStartOf scheme h start → StartFits L start
+abbrev NoMessageOf : Bounds → Scheme1 → Bool → List Interim → Head → List ℕ → Type 0
+NoMessageOf L scheme to_head is h y = (start : Start) (content : List ℕ) (fs : List Field) → interims_of start ≡ is → IsStartOf scheme h start → StartFits L start
     → FieldsFit L (clean (hops h.fields) (says_host start) h.fields) → IsCoded h.fields → IsCounted h.fields
     → IsBody L (framing to_head h) content fs y → FieldsFit L (clean_trailers (hops h.fields) fs) → ⊥
 
 module _ (L : Bounds) (scheme : Scheme1) (to_head : Bool) (is : List Interim) (few : IsWithin L.interims (length is)) (each : All (λ i. FieldsFit L i.fields) is) (h : Head) (y : List ℕ)
-    (next : IsNextStart is h.start) (ends : Ends L scheme to_head is h y) where
+    (next : IsNextStart is h.start) (ends : NoMessageOf L scheme to_head is h y) where
   asks : (method target : List ℕ) → h.start ≡ request_line method target → Without (OfStart L scheme to_head is h y (request_line method target)) → ⊥
   asks method target e clear =
       let none : Type 0 = (control : Control) → IsTargetOf scheme method target control → ⊥ in
@@ -386,7 +386,7 @@ heads_have L scheme to_head all bytes clear none (suc n) is x y l few each same 
         within : IsWithin L.section (length (take k y))
         within = subst (IsWithin L.section) (sym (length-take-le k y e.within)) w
 
-        ends : Ends L scheme to_head is h (drop k y)
+        ends : NoMessageOf L scheme to_head is h (drop k y)
         ends start content fs own says fits lines coded counted body trailers =
             let text : AreEach (IsInterimHead L) (interims_of start) x = subst (λ (js : List Interim). AreEach (IsInterimHead L) js x) (sym own) each in
             let behind : AreBytes (drop k y) = all_back (take k y) (drop k y) (subst AreBytes (sym (take-append-drop k y)) (all_back x y (subst AreBytes same bytes))) in

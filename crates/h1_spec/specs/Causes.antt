@@ -24,12 +24,12 @@ pub record IsOverlong (Ends : ℕ → Type 0) (limit : Option ℕ) (bytes : List
   pub long : most ≤ length bytes
   pub none : (many : ℕ) → many ≤ most → Ends many → ⊥
 
-pub record IsUnended (Ends : ℕ → Type 0) (limit : Option ℕ) (bytes : List ℕ) : Type 0 where
+pub record EndsTooSoon (Ends : ℕ → Type 0) (limit : Option ℕ) (bytes : List ℕ) : Type 0 where
   pub short : (most : ℕ) → limit ≡ Some most → length bytes < most
   pub none : (many : ℕ) → Ends many → ⊥
 
 -- The end of a section by the kind, within the limit, and what its bytes and those behind it say.
-pub record IsEnded (Ends : ℕ → Type 0) (limit : Option ℕ) (bytes : List ℕ) (found : List ℕ → List ℕ → Causes) (cause : H1Why) : Type 0 where
+pub record IsEndFound (Ends : ℕ → Type 0) (limit : Option ℕ) (bytes : List ℕ) (found : List ℕ → List ℕ → Causes) (cause : H1Why) : Type 0 where
   pub many : ℕ
   pub ends : Ends many
   pub within : IsWithin limit many
@@ -38,4 +38,4 @@ pub record IsEnded (Ends : ℕ → Type 0) (limit : Option ℕ) (bytes : List �
 -- A head or a trailer section is looked for: its end isn't found, or it is.
 abbrev pub OfSection : (ℕ → Type 0) → Option ℕ → List ℕ → H1Why → (List ℕ → List ℕ → Causes) → Causes
 OfSection Ends limit bytes overlong found cause = (IsOverlong Ends limit bytes × (cause ≡ overlong))
-    ⊎ ((IsUnended Ends limit bytes × (cause ≡ why.Ended)) ⊎ IsEnded Ends limit bytes found cause)
+    ⊎ ((EndsTooSoon Ends limit bytes × (cause ≡ why.Ended)) ⊎ IsEndFound Ends limit bytes found cause)

@@ -1,7 +1,9 @@
 use Rattle.std.proofs.Common.{arith, ℕ, subst, sym}
 use Rattle.bh_spec.specs.declared.Judged.TheVariants as judged
 use Rattle.bh_fields.specs.declared.walk.Phase.TheVariants as phases
-use Rattle.bh_fields.specs.Points.{Point, point_of, NamedAt, NamedState, Moves}
+use Rattle.bh_fields.specs.Points.{Point, point_of, NamedAt}
+use Rattle.bh_fields.specs.Stepping.{Moves}
+use Rattle.bh_fields.specs.States.{NamedState}
 use Rattle.bh_fields.proofs.Moves.{named_whole}
 use Rattle.bh_fields.proofs.Bytes.{name_begun, start_fits}
 use Rattle.bh_fields.proofs.walk.Walk.begin_name.Goals as goal

@@ -6,7 +6,9 @@ use Rattle.bh_spec.specs.declared.Judged.TheVariants as judged
 use Rattle.bh_fields.specs.declared.walk.Phase.{Phase}
 use Rattle.bh_fields.specs.declared.walk.Phase.TheVariants as phases
 use Rattle.bh_fields.specs.Sets.{lines_set}
-use Rattle.bh_fields.specs.Points.{Point, point_of, most_of, LinesAt, NextState, IsStep}
+use Rattle.bh_fields.specs.Points.{Point, point_of, most_of, LinesAt}
+use Rattle.bh_fields.specs.Stepping.{IsStep}
+use Rattle.bh_fields.specs.States.{NextState}
 use Rattle.bh_fields.proofs.Moves.{length_more, length_step, length_whole, length_limit, length_dead}
 use Rattle.bh_fields.proofs.Changes.{with_number, of_total, moved, most_is}
 use Rattle.bh_fields.proofs.walk.Walk.take_length.Goals as goal

@@ -7,7 +7,9 @@ use Rattle.bh_spec.specs.declared.Judged.TheVariants as judged
 use Rattle.bh_fields.specs.declared.walk.Phase.{Phase}
 use Rattle.bh_fields.specs.declared.walk.Phase.TheVariants as phases
 use Rattle.bh_fields.specs.Sets.{names_set, free_room}
-use Rattle.bh_fields.specs.Points.{Point, point_of, RestOf, NamedAt, part_of, NamedState, IsStep}
+use Rattle.bh_fields.specs.Points.{Point, point_of, RestOf, NamedAt, part_of}
+use Rattle.bh_fields.specs.Stepping.{IsStep}
+use Rattle.bh_fields.specs.States.{NamedState}
 use Rattle.bh_fields.specs.Bytewise.{Steps}
 use Rattle.bh_spec.specs.declared.Part.TheVariants as parts
 use Rattle.bh_spec.proofs.Widths.{count_1}

@@ -7,7 +7,9 @@ use Rattle.bh_spec.specs.declared.Judged.TheVariants as judged
 use Rattle.bh_fields.specs.declared.walk.Phase.{Phase}
 use Rattle.bh_fields.specs.declared.walk.Phase.TheVariants as phases
 use Rattle.bh_fields.specs.Sets.{values_set, free_room}
-use Rattle.bh_fields.specs.Points.{Point, point_of, RestOf, part_of, InValue, IsStep}
+use Rattle.bh_fields.specs.Points.{Point, point_of, RestOf, part_of}
+use Rattle.bh_fields.specs.Stepping.{IsStep}
+use Rattle.bh_fields.specs.States.{InValue}
 use Rattle.bh_fields.specs.Bytewise.{Steps}
 use Rattle.bh_spec.specs.declared.Part.TheVariants as parts
 use Rattle.bh_fields.proofs.Moves.{value_length_more, value_length_step, value_length_whole, value_length_limit, value_length_dead}
