@@ -52,7 +52,7 @@ impl CanonWriter {
     pub fn begin(&mut self)
         ensures { self.new ≡ before_all }
     {
-        self.chunk.clear();
+        self.chunk.clear(); // what a call that stopped left
         self.stage = Stage::Start;
     }
 }
