@@ -199,7 +199,7 @@ need_pushed v w piece o part one g h on =
     let leads = leads_all (state_rest v.limits v) (state_rest no_bounds v) (state_rest v.limits w) (state_rest no_bounds w) piece o g h on.leads in
     answers (state_rest v.limits v) (state_rest no_bounds v) piece Need (IsBehind v piece Need w) one
     (need_shows (state_rest v.limits v) (state_rest no_bounds v) (state_rest v.limits w) piece part one leads.within (next_at v w piece o part on))
-    (record { limits = on.limits; stage = on.stage; leads = leads })
+    (record { limits = on.limits; stage = on.stage; leads = leads; stood = tt })
 
 pub whole_pushed : (v w u : ControlState) (piece : List ℕ) (o : ℕ) (part : Part) → IsOnce (IsWanted v) → o < length piece → IsOn v w piece o part
     → Takes judged.Whole w (get_or piece o 0) u → Pushed v piece (Whole (o + 1)) u
@@ -208,7 +208,7 @@ whole_pushed v w u piece o part one h on t =
     let leads = leads_on (state_rest v.limits v) (state_rest no_bounds v) (state_rest v.limits w) (state_rest no_bounds w) (state_rest v.limits u) (state_rest no_bounds u) piece o h on.leads s.1 in
     answers (state_rest v.limits v) (state_rest no_bounds v) piece (Whole (o + 1)) (IsBehind v piece (Whole (o + 1)) u) one
     (whole_shows (state_rest v.limits v) (state_rest no_bounds v) (state_rest v.limits u) piece (o + 1) u.control (omega arith) leads.within s.2)
-    (record { limits = t.limits ∙ on.limits; stage = s.0; leads = (leads, s.2) })
+    (record { limits = t.limits ∙ on.limits; stage = s.0; leads = (leads, s.2); stood = tt })
 
 pub limit_pushed : (v w u : ControlState) (piece : List ℕ) (o : ℕ) (part : Part) → IsOnce (IsWanted v) → o < length piece → IsOn v w piece o part
     → Takes judged.Limit w (get_or piece o 0) u → Pushed v piece (Limit o part) u
@@ -217,7 +217,7 @@ limit_pushed v w u piece o part one h on t =
     answers (state_rest v.limits v) (state_rest no_bounds v) piece (Limit o part) (IsBehind v piece (Limit o part) u) one
     (limit_shows (state_rest v.limits v) (state_rest no_bounds v) (state_rest v.limits w) (state_rest no_bounds w) (state_rest v.limits u) (state_rest no_bounds u) piece o part u.stage u.control h
     on.leads (next_at v w piece o part on) s)
-    (record { limits = t.limits ∙ on.limits; stage = s.0; leads = tt })
+    (record { limits = t.limits ∙ on.limits; stage = s.0; leads = tt; stood = (w, record { limits = on.limits; stage = on.stage; leads = on.leads }) })
 
 pub dead_pushed : (v w u : ControlState) (piece : List ℕ) (o : ℕ) (part : Part) → IsOnce (IsWanted v) → o < length piece → IsOn v w piece o part
     → Takes judged.Dead w (get_or piece o 0) u → Pushed v piece (Dead o part) u
@@ -226,4 +226,4 @@ dead_pushed v w u piece o part one h on t =
     answers (state_rest v.limits v) (state_rest no_bounds v) piece (Dead o part) (IsBehind v piece (Dead o part) u) one
     (dead_shows (state_rest v.limits v) (state_rest no_bounds v) (state_rest v.limits w) (state_rest no_bounds w) (state_rest v.limits u) (state_rest no_bounds u) piece o part u.stage u.control h
     on.leads (next_at v w piece o part on) s)
-    (record { limits = t.limits ∙ on.limits; stage = s.0; leads = tt })
+    (record { limits = t.limits ∙ on.limits; stage = s.0; leads = tt; stood = (w, record { limits = on.limits; stage = on.stage; leads = on.leads }) })

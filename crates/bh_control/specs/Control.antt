@@ -8,7 +8,7 @@ use Rattle.bh_spec.specs.declared.PieceStep.{PieceStep}
 use Rattle.bh_spec.specs.declared.Judged.{Judged}
 use Rattle.bh_spec.specs.Pieces.{SomeOf}
 use Rattle.bh_spec.specs.Residuals.{IsResidual}
-use Rattle.bh_spec.specs.Readings.{Stage, reading, Leads as ReaderLeads, LeadsTo, stage_behind, Takes as ReaderTakes}
+use Rattle.bh_spec.specs.Readings.{Stage, reading, Leads as ReaderLeads, LeadsTo, StoodBefore, stage_behind, Takes as ReaderTakes}
 use Rattle.bh_control.specs.declared.progress.Phase.{Phase}
 use Rattle.bh_control.specs.declared.progress.Phase.TheVariants.{Length}
 use Rattle.bh_control.specs.declared.strings.Place.TheVariants.{Method}
@@ -57,11 +57,18 @@ pub record IsLeft (L : Bounds) (v : ControlState) : Type 0 where
   pub within : IsResidual (ControlOf L) bytes (λ c. c) (Rest L v)
   pub anyway : IsResidual (ControlOf no_bounds) bytes (λ c. c) (Rest no_bounds v)
 
--- the reader behind the answer
+-- the bytes lead from v to w, and more of the control data is to come
+pub record IsOnTheWay (v : ControlState) (bytes : List ℕ) (w : ControlState) : Type 0 where
+  pub limits : w.limits ≡ v.limits
+  pub stage : w.stage ≡ reading
+  pub leads : Leads v.limits v bytes w
+
+-- the reader behind the answer, and where it stood at a byte that it refused
 pub record IsBehind (v : ControlState) (piece : List ℕ) (step : PieceStep) (w : ControlState) : Type 0 where
   pub limits : w.limits ≡ v.limits
   pub stage : w.stage ≡ stage_behind step
   pub leads : LeadsTo (Rest v.limits v) (Rest no_bounds v) (Rest v.limits w) (Rest no_bounds w) piece step w.control
+  pub stood : StoodBefore (IsOnTheWay v) piece step
 
 -- what a byte makes of a reader
 pub record Takes (j : Judged) (v : ControlState) (byte : ℕ) (w : ControlState) : Type 0 where

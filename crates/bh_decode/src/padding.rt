@@ -1,5 +1,5 @@
 //! Padding.
-ghost use Rattle.std.specs.Prelude.{replicate, IfOk, IfErr};
+ghost use Rattle.std.specs.Prelude.{◌≡◌, replicate, IfOk, IfErr, IsTrue, IsFalse};
 ghost use Rattle.bh_spec.specs.Texts.{IsRun};
 ghost use Rattle.bh_spec.specs.declared.Part.TheVariants as parts;
 ghost use Rattle.bh_spec.specs.Pieces.{IsText};
@@ -15,7 +15,7 @@ pub fn read_padding(bytes: &[u8]) -> Result<usize, Stop>
     ensures stops { IfErr result (Stops IsPaddingText IsPaddingText bytes.now) }
 {
     for (i, byte) in bytes.iter().enumerate() {
-        if *byte != 0 {
+        if !is_zero(*byte) {
             return Err(Stop::Dead {
                 at: i,
                 part: Part::Padding,
@@ -23,4 +23,12 @@ pub fn read_padding(bytes: &[u8]) -> Result<usize, Stop>
         }
     }
     Ok(bytes.len())
+}
+
+/// Whether the byte is one of padding.
+fn is_zero(byte: u8) -> bool
+    ensures zero { IsTrue result → byte ≡ 0 }
+    ensures other { IsFalse result → byte ≡ 0 → ⊥ }
+{
+    byte == 0
 }

@@ -14,7 +14,7 @@ use Rattle.bh_spec.proofs.Readings.{Answers, answers, one_more, whole_piece, nee
 use Rattle.bh_fields.specs.Middle.{SectionView, Rest}
 use Rattle.bh_fields.specs.Bytewise.{IsLeft}
 use Rattle.bh_fields.specs.Views.{Leads, Takes}
-use Rattle.bh_fields.specs.Readers.{IsWanted, IsBehind}
+use Rattle.bh_fields.specs.Readers.{IsWanted, IsOnTheWay, IsBehind}
 use Rattle.bh_fields.proofs.Tracking.{left_once}
 
 pub once_for : (v : SectionView) → IsLeft v.form v.place (λ L. Rest L v) → IsOnce (IsWanted v)
@@ -51,6 +51,9 @@ takes_at L j v w byte e t = subst (λ (K : Bounds). ReaderTakes (Rest K v) (Rest
 next_at : (v w : SectionView) (piece : List ℕ) (o : ℕ) (part : Part) → IsOn v w piece o part → IsNext (SomeOf (Rest v.limits w)) [] part
 next_at v w piece o part on = subst (λ (L : Bounds). IsNext (SomeOf (Rest L w)) [] part) on.limits on.next
 
+stood_here : (v w : SectionView) (piece : List ℕ) (o : ℕ) (part : Part) → IsOn v w piece o part → IsOnTheWay v (take o piece) w
+stood_here v w piece o part on = record { same = record { limits = on.limits; form = on.form; place = on.place }; stage = on.stage; leads = on.leads }
+
 -- all clauses of `push`
 abbrev pub Pushed : SectionView → List ℕ → PieceStep → SectionView → Type 0
 Pushed v piece step w = Answers (Rest v.limits v) (Rest no_bounds v) piece step (IsBehind v piece step w)
@@ -60,7 +63,7 @@ need_pushed v w piece o part one g h on =
     let leads : Leads v piece w = λ L. whole_piece (Rest L v) (Rest L w) piece o g h (on.leads L) in
     answers (Rest v.limits v) (Rest no_bounds v) piece Need (IsBehind v piece Need w) one
     (need_shows (Rest v.limits v) (Rest no_bounds v) (Rest v.limits w) piece part one (leads v.limits) (next_at v w piece o part on))
-    (record { limits = on.limits; form = on.form; place = on.place; stage = on.stage; leads = leads })
+    (record { limits = on.limits; form = on.form; place = on.place; stage = on.stage; leads = leads; stood = tt })
 
 pub whole_pushed : (v w u : SectionView) (piece : List ℕ) (o : ℕ) (part : Part) → IsOnce (IsWanted v) → o < length piece → IsOn v w piece o part
     → Takes judged.Whole w (get_or piece o 0) u → Pushed v piece (Whole (o + 1)) u
@@ -69,7 +72,7 @@ whole_pushed v w u piece o part one h on t =
     answers (Rest v.limits v) (Rest no_bounds v) piece (Whole (o + 1)) (IsBehind v piece (Whole (o + 1)) u) one
     (whole_shows (Rest v.limits v) (Rest no_bounds v) (Rest v.limits u) piece (o + 1) u.lines (omega arith) (leads v.limits)
     (subst (λ (L : Bounds). Rest L u u.lines []) (t.0.limits ∙ on.limits) t.3))
-    (record { limits = t.0.limits ∙ on.limits; form = t.0.form ∙ on.form; place = t.0.place ∙ on.place; stage = t.1; leads = (leads, t.3) })
+    (record { limits = t.0.limits ∙ on.limits; form = t.0.form ∙ on.form; place = t.0.place ∙ on.place; stage = t.1; leads = (leads, t.3); stood = tt })
 
 pub limit_pushed : (v w u : SectionView) (piece : List ℕ) (o : ℕ) (part : Part) → IsOnce (IsWanted v) → o < length piece → IsOn v w piece o part
     → Takes judged.Limit w (get_or piece o 0) u → Pushed v piece (Limit o part) u
@@ -77,7 +80,7 @@ limit_pushed v w u piece o part one h on t =
     answers (Rest v.limits v) (Rest no_bounds v) piece (Limit o part) (IsBehind v piece (Limit o part) u) one
     (limit_shows (Rest v.limits v) (Rest no_bounds v) (Rest v.limits w) (Rest no_bounds w) (Rest v.limits u) (Rest no_bounds u) piece o part u.stage u.lines h
     (both v.limits v w (take o piece) on.leads) (next_at v w piece o part on) (takes_at v.limits judged.Limit w u (get_or piece o 0) on.limits t))
-    (record { limits = t.0.limits ∙ on.limits; form = t.0.form ∙ on.form; place = t.0.place ∙ on.place; stage = t.1; leads = tt })
+    (record { limits = t.0.limits ∙ on.limits; form = t.0.form ∙ on.form; place = t.0.place ∙ on.place; stage = t.1; leads = tt; stood = (w, stood_here v w piece o part on) })
 
 pub dead_pushed : (v w u : SectionView) (piece : List ℕ) (o : ℕ) (part : Part) → IsOnce (IsWanted v) → o < length piece → IsOn v w piece o part
     → Takes judged.Dead w (get_or piece o 0) u → Pushed v piece (Dead o part) u
@@ -85,4 +88,4 @@ dead_pushed v w u piece o part one h on t =
     answers (Rest v.limits v) (Rest no_bounds v) piece (Dead o part) (IsBehind v piece (Dead o part) u) one
     (dead_shows (Rest v.limits v) (Rest no_bounds v) (Rest v.limits w) (Rest no_bounds w) (Rest v.limits u) (Rest no_bounds u) piece o part u.stage u.lines h
     (both v.limits v w (take o piece) on.leads) (next_at v w piece o part on) (takes_at v.limits judged.Dead w u (get_or piece o 0) on.limits t))
-    (record { limits = t.0.limits ∙ on.limits; form = t.0.form ∙ on.form; place = t.0.place ∙ on.place; stage = t.1; leads = tt })
+    (record { limits = t.0.limits ∙ on.limits; form = t.0.form ∙ on.form; place = t.0.place ∙ on.place; stage = t.1; leads = tt; stood = (w, stood_here v w piece o part on) })

@@ -5,9 +5,9 @@ use Rattle.bh_spec.specs.declared.PieceStep.TheVariants.{Need, Whole, Dead, Limi
 use Rattle.bh_spec.specs.Bounds.{no_bounds}
 use Rattle.bh_spec.specs.Texts.{Text}
 use Rattle.bh_spec.specs.Pieces.{SomeOf}
-use Rattle.bh_spec.specs.Readings.{stage_behind}
+use Rattle.bh_spec.specs.Readings.{reading, StoodBefore, stage_behind}
 use Rattle.bh_fields.specs.Middle.{SectionView, Rest}
-use Rattle.bh_fields.specs.Views.{Leads}
+use Rattle.bh_fields.specs.Views.{Leads, IsSameSection}
 
 -- what completes the section: within the reader's limits, and without limits
 abbrev pub IsWanted : SectionView → Text → Type 0
@@ -23,10 +23,17 @@ LeadsTo v piece (Whole taken) w = Leads v (take taken piece) w × Rest w.limits 
 LeadsTo v piece (Dead offset part) w = Unit {0}
 LeadsTo v piece (Limit offset part) w = Unit {0}
 
--- the reader behind the answer
+-- the bytes lead from v to w, and more of the section is to come
+pub record IsOnTheWay (v : SectionView) (bytes : List ℕ) (w : SectionView) : Type 0 where
+  pub same : IsSameSection v w
+  pub stage : w.stage ≡ reading
+  pub leads : Leads v bytes w
+
+-- the reader behind the answer, and where it stood at a byte that it refused
 pub record IsBehind (v : SectionView) (piece : List ℕ) (step : PieceStep) (w : SectionView) : Type 0 where
   pub limits : w.limits ≡ v.limits
   pub form : w.form ≡ v.form
   pub place : w.place ≡ v.place
   pub stage : w.stage ≡ stage_behind step
   pub leads : LeadsTo v piece step w
+  pub stood : StoodBefore (IsOnTheWay v) piece step

@@ -29,7 +29,10 @@ use Rattle.bh_push.specs.Decoders.{At, Rest, in_control, before_interim, in_inte
 use Rattle.bh_push.proofs.Requests.{after_start}
 use Rattle.bh_push.proofs.StatusBytes.{interim_some}
 use Rattle.bh_push.specs.Standing.{read_in}
-use Rattle.bh_push.specs.Courses.{head_shown, shown_head, InSection, head_of, at_by, place_of, zeros_of, IsAt, IsOpenBy, IsOpen, IsSection, IsControlData, IsCourse, Walked}
+use Rattle.bh_push.specs.Courses.{head_shown, shown_head, InSection, head_of, at_by, place_of, zeros_of, IsAt, IsOpenBy, IsOpen, IsSection, IsControlData, IsCourse, Walked, Says}
+use Rattle.bh_push.specs.declared.course.Stepped.{Stepped}
+use Rattle.bh_push.proofs.Courses.{header_kind, interim_kind}
+use Rattle.bh_push.proofs.Walking.{begun_says}
 
 -- ---- a number has a byte
 
@@ -193,6 +196,7 @@ walked_begun c b piece R s at a q t r e hidden silent inside limits opened = rec
   zeros = omega (arith, a.zeros);
   head = silent ∙ sym (ap (λ (x : Stage). head_shown x (head_of c.status c.control.control)) e ∙ hidden);
   lines = inl inside;
+  right = tt;
 }
 
 -- a section of this head
@@ -231,3 +235,12 @@ interim_begun_open c b form before status e f h limits control few = record {
   at = subst (λ (x : Stage). IsOpenBy x b) (sym e)
       (subst (λ (L : Bounds). IsWithin L.interims (before + 1)) (sym limits) few, subst IsSection (sym f) (section_begun form Header c.section));
 }
+
+-- what is said of the rest is said of the whole
+pub header_says : (c b d : Course) (form : Form) (piece : List ℕ) (r : Stepped) → c.stage ≡ stages.BeforeHeader form → b.stage ≡ stages.Header form → b.status ≡ c.status → Walked c piece 0 [] b
+    → Says b piece r d → Says c piece r d
+header_says c b d form piece r e f status a s = begun_says c b d piece r a (header_kind c b form e f status) s
+
+pub interim_says : (c b d : Course) (form : Form) (before code : ℕ) (piece : List ℕ) (r : Stepped) → c.stage ≡ stages.BeforeInterim form before code → b.stage ≡ stages.Interim form before code
+    → b.status ≡ c.status → Walked c piece 0 [] b → Says b piece r d → Says c piece r d
+interim_says c b d form before code piece r e f status a s = begun_says c b d piece r a (interim_kind c b form before code e f status) s

@@ -4,7 +4,7 @@ use Rattle.std.proofs.Math.Seq.{take-length}
 use Rattle.bh_spec.specs.declared.Form.{Form}
 use Rattle.bh_spec.specs.declared.Part.{Part}
 use Rattle.bh_spec.specs.Bounds.{Bounds, no_bounds}
-use Rattle.bh_spec.specs.Pieces.{SomeOf, CanBecome, IsRefused, IsDead, IsLimit}
+use Rattle.bh_spec.specs.Pieces.{SomeOf, CanBecome, IsNext, IsRefused, IsDead, IsLimit}
 use Rattle.bh_spec.specs.Texts.{Text, bytes_of}
 use Rattle.bh_model.specs.declared.field.Place.TheVariants.{Trailer}
 use Rattle.bh_fields.specs.Middle.{SectionView, begun_view, Rest as section_rest}
@@ -20,12 +20,13 @@ use Rattle.bh_push.specs.declared.course.Stepped.{Stepped}
 use Rattle.bh_push.specs.declared.course.Stepped.TheVariants as stepped
 use Rattle.bh_push.specs.Bodies.{at_of, IsBody, Becomes, IsContent}
 use Rattle.bh_push.specs.Completing.{PaddingRest}
-use Rattle.bh_push.specs.Decoders.{At, Rest, length_part, behind_content, in_trailers}
-use Rattle.bh_push.specs.Standing.{Comes, head_behind, LinesAre, EndsWith}
+use Rattle.bh_push.specs.Decoders.{At, Rest, length_part, behind_content, in_trailers, IsBehindContent}
+use Rattle.bh_push.specs.Hands.{kind_of_shown, kind_at}
+use Rattle.bh_push.specs.Standing.{Comes, head_behind, LinesAre, IsRight, EndsWith}
 use Rattle.bh_control.specs.Control.{ControlState}
-use Rattle.bh_push.specs.Courses.{head_shown, shown_head, shown_lines, InSection, Stays, IsFull, head_of, at_by, place_of, zeros_of, IsSection, IsCourse, IsOpenBy, IsOpen, Taken, Says}
+use Rattle.bh_push.specs.Courses.{head_shown, shown_head, shown_lines, InSection, Stays, Halts, kind_now, IsFull, head_of, at_by, place_of, zeros_of, IsSection, IsCourse, IsOpenBy, IsOpen, Taken, Says}
 use Rattle.bh_push.proofs.Begun.{section_begun, yields_into}
-use Rattle.bh_push.proofs.Courses.{Shown, stays_in, head_kept, same_lines_shown, taken_of, dead_of, keeps}
+use Rattle.bh_push.proofs.Courses.{Shown, body_kind, halts_at, comes_here, stays_in, head_kept, same_lines_shown, taken_of, dead_of, keeps}
 use Rattle.bh_push.proofs.Walking.{lines_on}
 use Rattle.bh_push.proofs.Ends.{content_behind}
 
@@ -53,7 +54,7 @@ content_lines_in c d [] some k = absurd (omega (arith, some))
 content_lines_in c d (b ∷ bytes) some k = kept_outside c d k
 
 nothing_shown : (c d : Course) → KeepsReaders c d → Shown c d [] stages.Content stages.Content
-nothing_shown c d k = record { head = head_kept c d k.control k.status; lines = inr (kept_outside c d k) }
+nothing_shown c d k = record { head = head_kept c d k.control k.status; lines = inr (kept_outside c d k); right = tt }
 
 content_taken : (c d : Course) (piece : List ℕ) (taken : ℕ) (yields : List Item) → c.stage ≡ stages.Content → d.stage ≡ stages.Content → IsOpen c → 0 < taken → taken ≤ length piece
     → Becomes (at_body c) (take taken piece) yields (at_body d) → IsBody d.body.phase d.body.number → KeepsReaders c d
@@ -78,22 +79,29 @@ some_of piece [] [] zero some e = absurd (omega (arith, some))
 some_of piece [] (b ∷ bytes) zero some e = absurd cc
 some_of piece (x ∷ front) bytes zero some e = absurd cc
 
+content_right : (bytes : List ℕ) (w : At) → 0 < length bytes → IsBehindContent w → IsRight (map content_byte bytes) w
+content_right [] w some r = absurd (omega (arith, some))
+content_right (b ∷ bytes) w some r = r
+
 pub content_some : (c d : Course) (piece bytes : List ℕ) (taken : ℕ) → c.stage ≡ stages.Content → d.stage ≡ stages.Content → IsOpen c → IsContent (at_body c) piece taken bytes (at_body d)
-    → IsBody d.body.phase d.body.number → KeepsReaders c d
+    → IsBody d.body.phase d.body.number → KeepsReaders c d → IsBehindContent (at_body d)
     → Taken c piece taken (map content_byte bytes) d × EndsWith piece taken bytes × IsFull piece taken (place_of d)
-content_some c d piece bytes taken e f o h body k = (
+content_some c d piece bytes taken e f o h body k r = (
   content_taken c d piece taken (map content_byte bytes) e f o (some_of piece h.ends.0 bytes taken h.some h.ends.1) h.inside h.becomes body k
-      (record { head = head_kept c d k.control k.status ∙ sym (content_head bytes (Some (head_of c.status c.control.control))); lines = content_lines_in c d bytes h.some k }),
+      (record { head = head_kept c d k.control k.status ∙ sym (content_head bytes (Some (head_of c.status c.control.control))); lines = content_lines_in c d bytes h.some k; right = content_right bytes (at_body d) h.some r }),
   record { some = h.some; front = h.ends.0; ends = h.ends.1 },
   subst (λ (s : Stage). IsFull piece taken (at_by s d)) (sym f) h.all,
 )
 
 pub content_refused : (c d : Course) (piece : List ℕ) (offset : ℕ) (form : Form) (part : Part) → c.stage ≡ stages.Content → d.stage ≡ stages.Content → IsOpen c → KeepsReaders c d → form ≡ c.body.form → part ≡ length_part form
-    → ((L : Bounds) → IsDead (SomeOf (Rest L (at_body c))) (SomeOf (Rest no_bounds (at_body c))) [] piece offset (length_part c.body.form)) → Says c piece (stepped.Dead offset part) d
-content_refused c d piece offset form part e stays o k f g h =
+    → ((L : Bounds) → IsDead (SomeOf (Rest L (at_body c))) (SomeOf (Rest no_bounds (at_body c))) [] piece offset (length_part c.body.form))
+    → (phase : Phase) (number : List ℕ) → Becomes (at_body c) (take offset piece) [] (at_of phase c.body.form number) → Says c piece (stepped.Dead offset part) d
+content_refused c d piece offset form part e stays o k f g h phase number b =
     subst (λ (p : Part). Says c piece (stepped.Dead offset p) d) (sym (g ∙ ap length_part f)) (dead_of c d piece offset (length_part c.body.form) stages.Content e (h c.limits)
     (stays_in c d stages.Content e stays o k.limits (ap (λ (x : ControlState). x.limits) k.control) (ap (λ (x : SectionView). x.limits) k.section)
-    (head_kept c d k.control k.status) (inr (kept_outside c d k))))
+    (head_kept c d k.control k.status) (inr (kept_outside c d k)))
+    (halts_at c d piece offset stages.Content (at_of phase c.body.form number) e stays k.status (b c.limits)
+    (λ shown. body_kind phase c.body.form number shown ∙ sym (body_kind c.body.phase c.body.form c.body.number shown))))
 
 -- ---- the first bytes of the trailer section
 
@@ -222,7 +230,31 @@ taken_so c b d form v piece taken yields h t =
         zeros = subst (λ (s : Stage). zeros_of d.stage ≤ zeros_of s + taken) (sym h.content) (subst (λ (s : Stage). zeros_of d.stage ≤ zeros_of s + taken) h.stage a.zeros);
         head = a.head ∙ ap (head_behind yields) h.head;
         lines = lines_on c b d yields (inl (inside_trailers c b form v h)) a.lines;
+        right = a.right;
       };
+    }
+
+-- the kind stays
+kind_begun : (c b : Course) (form : Form) (v : SectionView) → Begins c b form v → kind_now b ≡ kind_now c
+kind_begun c b form v h =
+    ap (λ (x : At). kind_at x (shown_head b)) (place_begun c b form v h) ∙ ap kind_of_shown h.head ∙ ap (λ (x : At). kind_at x (shown_head c)) (place_over c b form v h)
+
+-- A byte that is refused at once stood behind the content; another in the section.
+halts_so : (c b d : Course) (form : Form) (v : SectionView) (piece : List ℕ) (offset : ℕ) (part : Part) → Begins c b form v → IsRefused (SomeOf (Rest c.limits (place_of c))) [] piece offset part
+    → Halts b piece offset d → Halts c piece offset d
+halts_so c b d form v piece zero part h r s = record { at = place_of c; comes = comes_here c.limits (place_of c) part r.next; there = refl; kind = s.kind ∙ kind_begun c b form v h }
+halts_so c b d form v piece (suc n) part h r s =
+    let cut = cons_taken piece (suc n) (omega arith) (omega (arith, r.inside)) in
+    let m : Comes b.limits (in_trailers form (begun_view form Trailer v)) (take (suc n) piece) [] s.at =
+    subst (λ (x : At). Comes b.limits x (take (suc n) piece) [] s.at) (place_begun c b form v h) s.comes in
+    let i : Comes c.limits (behind_content form) (take (suc n) piece) [] s.at =
+    behind_moves c.limits form v (take (suc n) piece) [] s.at cut.0 cut.1 cut.2
+    (subst (λ (L : Bounds). Comes L (in_trailers form (begun_view form Trailer v)) (take (suc n) piece) [] s.at) h.limits m) in
+    record {
+      at = s.at;
+      comes = subst (λ (x : At). Comes c.limits x (take (suc n) piece) [] s.at) (place_over c b form v h) i;
+      there = ap (kind_at s.at) (sym h.head) ∙ s.there ∙ kind_begun c b form v h;
+      kind = s.kind ∙ kind_begun c b form v h;
     }
 
 pub behind_says : (c b d : Course) (form : Form) (v : SectionView) (piece : List ℕ) (r : Stepped) → Begins c b form v → Says b piece r d → Says c piece r d
@@ -231,20 +263,18 @@ behind_says c b d form v piece (stepped.Interim taken status) h s = taken_so c b
 behind_says c b d form v piece (stepped.Head taken) h s = taken_so c b d form v piece taken (head (head_of d.status d.control.control) d.section.lines ∷ []) h s
 behind_says c b d form v piece (stepped.Content taken bytes) h s = (taken_so c b d form v piece taken (map content_byte bytes.now) h s.0, s.1, s.2)
 behind_says c b d form v piece (stepped.Trailers taken) h s = taken_so c b d form v piece taken (trailer_section d.section.lines ∷ []) h s
-behind_says c b d form v piece (stepped.Dead offset part) h s = (
-  subst (λ (x : At). IsDead (SomeOf (Rest c.limits x)) (SomeOf (Rest no_bounds x)) [] piece offset part) (place_over c b form v h)
-      (behind_dead c.limits form v piece offset part
-      (subst (λ (x : At). IsDead (SomeOf (Rest c.limits x)) (SomeOf (Rest no_bounds x)) [] piece offset part) (place_begun c b form v h)
-      (subst (λ (L : Bounds). IsDead (SomeOf (Rest L (place_of b))) (SomeOf (Rest no_bounds (place_of b))) [] piece offset part) h.limits s.0))),
-  stays_so c b d form v h s.1,
-)
-behind_says c b d form v piece (stepped.Limit offset part) h s = (
-  subst (λ (x : At). IsLimit (SomeOf (Rest c.limits x)) (SomeOf (Rest no_bounds x)) [] piece offset part) (place_over c b form v h)
-      (behind_limit c.limits form v piece offset part
-      (subst (λ (x : At). IsLimit (SomeOf (Rest c.limits x)) (SomeOf (Rest no_bounds x)) [] piece offset part) (place_begun c b form v h)
-      (subst (λ (L : Bounds). IsLimit (SomeOf (Rest L (place_of b))) (SomeOf (Rest no_bounds (place_of b))) [] piece offset part) h.limits s.0))),
-  stays_so c b d form v h s.1,
-)
+behind_says c b d form v piece (stepped.Dead offset part) h s =
+    let dead = subst (λ (x : At). IsDead (SomeOf (Rest c.limits x)) (SomeOf (Rest no_bounds x)) [] piece offset part) (place_over c b form v h)
+    (behind_dead c.limits form v piece offset part
+    (subst (λ (x : At). IsDead (SomeOf (Rest c.limits x)) (SomeOf (Rest no_bounds x)) [] piece offset part) (place_begun c b form v h)
+    (subst (λ (L : Bounds). IsDead (SomeOf (Rest L (place_of b))) (SomeOf (Rest no_bounds (place_of b))) [] piece offset part) h.limits s.0))) in
+    (dead, stays_so c b d form v h s.1, halts_so c b d form v piece offset part h dead.refused s.2)
+behind_says c b d form v piece (stepped.Limit offset part) h s =
+    let limit = subst (λ (x : At). IsLimit (SomeOf (Rest c.limits x)) (SomeOf (Rest no_bounds x)) [] piece offset part) (place_over c b form v h)
+    (behind_limit c.limits form v piece offset part
+    (subst (λ (x : At). IsLimit (SomeOf (Rest c.limits x)) (SomeOf (Rest no_bounds x)) [] piece offset part) (place_begun c b form v h)
+    (subst (λ (L : Bounds). IsLimit (SomeOf (Rest L (place_of b))) (SomeOf (Rest no_bounds (place_of b))) [] piece offset part) h.limits s.0))) in
+    (limit, stays_so c b d form v h s.1, halts_so c b d form v piece offset part h limit.refused s.2)
 
 -- the head is shown behind the content
 pub over_head : (c : Course) → c.stage ≡ stages.Content → Some (head_of c.status c.control.control) ≡ shown_head c

@@ -25,7 +25,7 @@ use Rattle.bh_spec.specs.Items.{Item, content_byte, ending}
 use Rattle.bh_spec.specs.Residuals.{IsResidual, IsStep, HasSame}
 use Rattle.bh_spec.proofs.Residuals.{residual_here, residual_on, residual_bytes, residual_step, same_of}
 use Rattle.bh_push.specs.Completing.{AfterContent, AfterRun, BodyRest, ContentRest, TailRest}
-use Rattle.bh_push.specs.Decoders.{At, Rest, in_length, in_content, length_part}
+use Rattle.bh_push.specs.Decoders.{At, Rest, in_length, in_content, length_part, IsBehindContent}
 use Rattle.bh_push.specs.Bodies.{any_length, at_of, phase_behind, phase_of, IsBegun, IsBody, IsCounting, Goes, Stops, Becomes, IsContent}
 use Rattle.bh_push.specs.declared.body.Phase.{Phase}
 use Rattle.bh_push.specs.declared.body.Phase.TheVariants as phases
@@ -280,6 +280,12 @@ body_behind Indeterminate zero number e =
     subst IsBegun (sym e) (record { live = begins_nil any_length 0 One (omega arith) (only_length 0 One (omega arith)); unfinished = unfinished_nil })
 body_behind Known (suc m) number e = (omega arith, e)
 body_behind Indeterminate (suc m) number e = (omega arith, e)
+
+pub run_right : (form : Form) (m : ℕ) (number : List ℕ) → number ≡ [] → IsBehindContent (at_of (phase_behind form m) form number)
+run_right Known zero number e = inr (inl refl)
+run_right Indeterminate zero number e = inr (inr (ap (in_length Indeterminate) e))
+run_right Known (suc m) number e = inl (Known, suc m, omega arith, refl)
+run_right Indeterminate (suc m) number e = inl (Indeterminate, suc m, omega arith, refl)
 
 pub body_of : (n : ℕ) (number : List ℕ) → number ≡ [] → IsBody (phase_of n) number
 body_of zero number e = tt

@@ -1,18 +1,21 @@
 -- A step from a phase to a phase.
-use Rattle.std.proofs.Common.{◌≡◌, ◌≤◌, ◌+◌, ◌<◌, ℕ, zero, suc, Option, Some, List, [], ◌∷◌, ◌++◌, length, take, get_or, refl, sym, ap, subst, ◌∙◌, append-nil, arith, inl, inr, ◌⊎◌}
+use Rattle.std.proofs.Common.{◌≡◌, ◌≤◌, ◌+◌, ◌<◌, ℕ, zero, suc, Option, Some, None, List, [], ◌∷◌, ◌++◌, length, take, get_or, refl, sym, ap, subst, ◌∙◌, append-nil, arith, inl, inr, ◌⊎◌}
 use Rattle.std.proofs.Math.Seq.{take-length}
 use Rattle.bh_spec.specs.declared.Form.{Form}
+use Rattle.bh_spec.specs.declared.Kind.{Kind}
+use Rattle.bh_spec.specs.declared.Kind.TheVariants.{Request, Response}
 use Rattle.bh_spec.specs.declared.Part.{Part}
 use Rattle.bh_spec.specs.declared.Part.TheVariants as parts
 use Rattle.bh_spec.specs.declared.Omitted.TheVariants.{Nothing}
 use Rattle.bh_spec.specs.Bounds.{Bounds, IsWithin, no_bounds}
-use Rattle.bh_spec.specs.Pieces.{SomeOf, IsText, CanBecome, Ends, GoesOn, IsNext, IsDead, IsLimit}
+use Rattle.bh_spec.specs.Messages.{Control}
+use Rattle.bh_spec.specs.Pieces.{SomeOf, IsText, CanBecome, Ends, GoesOn, IsNext, IsRefused, IsDead, IsLimit}
 use Rattle.bh_spec.specs.Texts.{Text, bytes_of}
 use Rattle.bh_spec.specs.declared.PieceStep.{PieceStep}
 use Rattle.bh_spec.specs.Readings.{Stage as SectionStage, whole, Shows as ReaderShows}
 use Rattle.bh_fields.specs.Middle.{SectionView, Rest as section_rest}
 use Rattle.bh_control.specs.Control.{ControlState}
-use Rattle.bh_fields.specs.Readers.{IsWanted, IsUnlimited, IsBehind}
+use Rattle.bh_fields.specs.Readers.{IsWanted, IsUnlimited, IsOnTheWay, IsBehind}
 use Rattle.bh_spec.specs.declared.PieceStep.TheVariants as sections
 use Rattle.bh_spec.specs.Items.{Item, Head, head, trailer_section, ending}
 use Rattle.bh_spec.specs.Readers.{Moves}
@@ -25,12 +28,15 @@ use Rattle.bh_push.specs.declared.body.Phase.{Phase}
 use Rattle.bh_push.specs.declared.body.Phase.TheVariants as phases
 use Rattle.bh_push.specs.Bodies.{at_of, IsBody}
 use Rattle.bh_push.specs.Decoders.{At, Rest, in_header, behind_head, in_trailers, in_padding}
-use Rattle.bh_push.specs.Standing.{Comes, head_behind, LinesAre}
-use Rattle.bh_push.specs.Courses.{head_shown, shown_head, lines_in, shown_lines, InSection, LinesKept, Stays, head_of, at_by, place_of, zeros_of, IsSection, IsCourse, IsOpenBy, IsOpen, Taken, Says, IsAt}
-use Rattle.bh_spec.proofs.Residuals.{residual_step}
+use Rattle.bh_push.specs.Hands.{kind_of_head, kind_of_shown, kind_at}
+use Rattle.bh_push.specs.Ending.{kind_by_status}
+use Rattle.bh_push.specs.Standing.{Comes, head_behind, LinesAre, IsRight}
+use Rattle.bh_push.specs.Courses.{head_shown, shown_head, lines_in, shown_lines, InSection, LinesKept, Stays, Halts, kind_now, head_of, at_by, place_of, zeros_of, IsSection, IsCourse, IsOpenBy, IsOpen, Taken, Says, IsAt}
+use Rattle.bh_spec.proofs.Residuals.{residual_here, residual_step}
+use Rattle.bh_spec.proofs.Pieces.{next_becomes, next_unfinished}
 use Rattle.bh_push.proofs.Ends.{padding_zero, padding_dead}
 use Rattle.bh_push.proofs.Framings.{byte_dead}
-use Rattle.bh_push.proofs.Sections.{header_goes_on, header_whole, header_dead, header_limit, trailers_go_on, trailers_whole, trailers_dead, trailers_limit, begun_on, weaker}
+use Rattle.bh_push.proofs.Sections.{header_goes_on, header_whole, header_dead, header_limit, trailers_go_on, trailers_whole, trailers_dead, trailers_limit, section_reader, begun_on, weaker}
 
 -- ---- generic
 
@@ -38,6 +44,7 @@ use Rattle.bh_push.proofs.Sections.{header_goes_on, header_whole, header_dead, h
 pub record Shown (c d : Course) (yields : List Item) (s t : Stage) : Type 0 where
   pub head : head_shown t (head_of d.status d.control.control) ≡ head_behind yields (head_shown s (head_of c.status c.control.control))
   pub lines : LinesAre yields (InSection t) ((InSection s → ⊥) × (shown_lines d ≡ shown_lines c)) (shown_lines d)
+  pub right : IsRight yields (at_by t d)
 
 pub taken_of : (c d : Course) (piece : List ℕ) (taken : ℕ) (yields : List Item) (s t : Stage) → c.stage ≡ s → d.stage ≡ t → 0 < taken → taken ≤ length piece
     → Comes c.limits (at_by s c) (take taken piece) yields (at_by t d) → d.limits ≡ c.limits → IsCourse d → IsOpenBy t d → zeros_of t ≤ zeros_of s + taken → Shown c d yields s t
@@ -55,6 +62,7 @@ taken_of c d piece taken yields s t e f some inside comes limits course at zeros
         (subst (λ (x : Stage). head_shown t (head_of d.status d.control.control) ≡ head_behind yields (head_shown x (head_of c.status c.control.control))) (sym e) shown.head);
     lines = subst (λ (x : Stage). LinesAre yields (InSection x) (LinesKept c d) (shown_lines d)) (sym f)
         (subst (λ (x : Stage). LinesAre yields (InSection t) ((InSection x → ⊥) × (shown_lines d ≡ shown_lines c)) (shown_lines d)) (sym e) shown.lines);
+    right = subst (λ (x : Stage). IsRight yields (at_by x d)) (sym f) shown.right;
   };
 }
 
@@ -74,15 +82,82 @@ stays_in c d s e f o limits control section shows lines = record {
       (subst (λ (x : Stage). InSection s ⊎ ((InSection x → ⊥) × (shown_lines d ≡ shown_lines c))) (sym e) lines);
 }
 
+-- ---- the kind, and where a byte stood that is refused
+
+-- the kind in a stage
+abbrev kind_in : Stage → Option ℕ → Option Kind
+kind_in stages.Framing status = None
+kind_in (stages.Control form) status = Some Request
+kind_in (stages.Status form before) status = Some Response
+kind_in (stages.BeforeInterim form before code) status = Some Response
+kind_in (stages.Interim form before code) status = Some Response
+kind_in (stages.BeforeHeader form) status = Some (kind_by_status status)
+kind_in (stages.Header form) status = Some (kind_by_status status)
+kind_in stages.Content status = Some (kind_by_status status)
+kind_in (stages.Trailers form) status = Some (kind_by_status status)
+kind_in (stages.Padding before) status = Some (kind_by_status status)
+
+kind_of_start : (status : Option ℕ) (control : Control) → kind_of_head (head_of status control) ≡ kind_by_status status
+kind_of_start None control = refl
+kind_of_start (Some status) control = refl
+
+pub body_kind : (phase : Phase) (form : Form) (number : List ℕ) (shown : Option Head) → kind_at (at_of phase form number) shown ≡ kind_of_shown shown
+body_kind phases.Head form number shown = refl
+body_kind phases.Length form number shown = refl
+body_kind (phases.Run missing) form number shown = refl
+body_kind phases.Over form number shown = refl
+
+stage_kind : (s : Stage) (c : Course) → kind_at (at_by s c) (head_shown s (head_of c.status c.control.control)) ≡ kind_in s c.status
+stage_kind stages.Framing c = refl
+stage_kind (stages.Control form) c = refl
+stage_kind (stages.Status form before) c = refl
+stage_kind (stages.BeforeInterim form before code) c = refl
+stage_kind (stages.Interim form before code) c = refl
+stage_kind (stages.BeforeHeader form) c = ap (λ (k : Kind). Some k) (kind_of_start c.status c.control.control)
+stage_kind (stages.Header form) c = ap (λ (k : Kind). Some k) (kind_of_start c.status c.control.control)
+stage_kind stages.Content c =
+    body_kind c.body.phase c.body.form c.body.number (Some (head_of c.status c.control.control)) ∙ ap (λ (k : Kind). Some k) (kind_of_start c.status c.control.control)
+stage_kind (stages.Trailers form) c = ap (λ (k : Kind). Some k) (kind_of_start c.status c.control.control)
+stage_kind (stages.Padding before) c = ap (λ (k : Kind). Some k) (kind_of_start c.status c.control.control)
+
+kind_by_stage : (c : Course) (s : Stage) → c.stage ≡ s → kind_now c ≡ kind_in s c.status
+kind_by_stage c s e = stage_kind c.stage c ∙ ap (λ (x : Stage). kind_in x c.status) e
+
+-- the kind is of the stage and the status
+same_kind : (c d : Course) (s t : Stage) → c.stage ≡ s → d.stage ≡ t → kind_in t c.status ≡ kind_in s c.status → d.status ≡ c.status → kind_now d ≡ kind_now c
+same_kind c d s t e f same status = kind_by_stage d t f ∙ ap (kind_in t) status ∙ same ∙ sym (kind_by_stage c s e)
+
+pub header_kind : (c d : Course) (form : Form) → c.stage ≡ stages.BeforeHeader form → d.stage ≡ stages.Header form → d.status ≡ c.status → kind_now d ≡ kind_now c
+header_kind c d form e f status = same_kind c d (stages.BeforeHeader form) (stages.Header form) e f refl status
+
+pub interim_kind : (c d : Course) (form : Form) (before code : ℕ) → c.stage ≡ stages.BeforeInterim form before code → d.stage ≡ stages.Interim form before code → d.status ≡ c.status → kind_now d ≡ kind_now c
+interim_kind c d form before code e f status = same_kind c d (stages.BeforeInterim form before code) (stages.Interim form before code) e f refl status
+
+pub halts_at : (c d : Course) (piece : List ℕ) (offset : ℕ) (s : Stage) (at : At) → c.stage ≡ s → d.stage ≡ s → d.status ≡ c.status → Comes c.limits (at_by s c) (take offset piece) [] at
+    → ((shown : Option Head) → kind_at at shown ≡ kind_at (at_by s c) shown) → Halts c piece offset d
+halts_at c d piece offset s at e f status comes kind = record {
+  at = at;
+  comes = subst (λ (x : Stage). Comes c.limits (at_by x c) (take offset piece) [] at) (sym e) comes;
+  there = kind (shown_head c) ∙ ap (λ (x : Stage). kind_at (at_by x c) (shown_head c)) (sym e);
+  kind = same_kind c d s s e f refl status;
+}
+
+-- no byte before it
+pub comes_here : (L : Bounds) (v : At) (part : Part) → IsNext (SomeOf (Rest L v)) [] part → Comes L v [] [] v
+comes_here L v part next = record { within = residual_here (Rest L v); anyway = residual_here (Rest no_bounds v); goes_on = next_becomes (SomeOf (Rest L v)) [] part next }
+
+pub halts_here : (c d : Course) (piece : List ℕ) (part : Part) (s : Stage) → c.stage ≡ s → d.stage ≡ s → d.status ≡ c.status → IsNext (SomeOf (Rest c.limits (at_by s c))) [] part → Halts c piece 0 d
+halts_here c d piece part s e f status next = halts_at c d piece 0 s (at_by s c) e f status (comes_here c.limits (at_by s c) part next) (λ shown. refl)
+
 pub dead_of : (c d : Course) (piece : List ℕ) (offset : ℕ) (part : Part) (s : Stage) → c.stage ≡ s → IsDead (SomeOf (Rest c.limits (at_by s c))) (SomeOf (Rest no_bounds (at_by s c))) [] piece offset part
-    → Stays c d → Says c piece (stepped.Dead offset part) d
-dead_of c d piece offset part s e h stays =
-    (subst (λ (x : Stage). IsDead (SomeOf (Rest c.limits (at_by x c))) (SomeOf (Rest no_bounds (at_by x c))) [] piece offset part) (sym e) h, stays)
+    → Stays c d → Halts c piece offset d → Says c piece (stepped.Dead offset part) d
+dead_of c d piece offset part s e h stays halts =
+    (subst (λ (x : Stage). IsDead (SomeOf (Rest c.limits (at_by x c))) (SomeOf (Rest no_bounds (at_by x c))) [] piece offset part) (sym e) h, stays, halts)
 
 pub limit_of : (c d : Course) (piece : List ℕ) (offset : ℕ) (part : Part) (s : Stage) → c.stage ≡ s → IsLimit (SomeOf (Rest c.limits (at_by s c))) (SomeOf (Rest no_bounds (at_by s c))) [] piece offset part
-    → Stays c d → Says c piece (stepped.Limit offset part) d
-limit_of c d piece offset part s e h stays =
-    (subst (λ (x : Stage). IsLimit (SomeOf (Rest c.limits (at_by x c))) (SomeOf (Rest no_bounds (at_by x c))) [] piece offset part) (sym e) h, stays)
+    → Stays c d → Halts c piece offset d → Says c piece (stepped.Limit offset part) d
+limit_of c d piece offset part s e h stays halts =
+    (subst (λ (x : Stage). IsLimit (SomeOf (Rest c.limits (at_by x c))) (SomeOf (Rest no_bounds (at_by x c))) [] piece offset part) (sym e) h, stays, halts)
 
 -- the lines of a whole section are shown
 pub whole_lines : (d : Course) → d.section.stage ≡ whole → shown_lines d ≡ Some d.section.lines
@@ -179,7 +254,7 @@ header_need c d form piece e f o some b g limits control same =
     taken_of c d piece (length piece) [] (stages.Header form) (stages.Header form) e f some (omega arith)
     (subst (λ (x : List ℕ). Comes c.limits (in_header form of v) x [] (in_header form (head_of d.status d.control.control) w)) (sym (take-length piece))
     (subst (λ (x : Head). Comes c.limits (in_header form of v) piece [] (in_header form x w)) same n))
-    limits (keeps c d o.course limits control b.limits) (section_on v w piece s b g) (omega arith) (record { head = refl; lines = inl tt })
+    limits (keeps c d o.course limits control b.limits) (section_on v w piece s b g) (omega arith) (record { head = refl; lines = inl tt; right = tt })
 
 -- what a reader refuses
 pub dead_in : (L M : Bounds) (v : At) (piece : List ℕ) (offset : ℕ) (part : Part) → M ≡ L → IsDead (SomeOf (Rest M v)) (SomeOf (Rest no_bounds v)) [] piece offset part
@@ -214,27 +289,42 @@ header_end c d form piece taken e f formed headed none o ends b limits control s
     taken_of c d piece taken (head (head_of d.status d.control.control) w.lines ∷ []) (stages.Header form) stages.Content e f (whole_some v piece taken s ends) ends.within
     (subst (λ (x : At). Comes c.limits (in_header form of v) (take taken piece) (head (head_of d.status d.control.control) w.lines ∷ []) x) here
     (subst (λ (x : Head). Comes c.limits (in_header form of v) (take taken piece) (head x w.lines ∷ []) (behind_head form)) same n))
-    limits (keeps c d o.course limits control b.limits) (subst (λ (x : Phase). IsBody x d.body.number) (sym headed) none) (omega arith) (record { head = refl; lines = whole_lines d b.stage })
+    limits (keeps c d o.course limits control b.limits) (subst (λ (x : Phase). IsBody x d.body.number) (sym headed) none) (omega arith) (record { head = refl; lines = whole_lines d b.stage; right = (form, sym here) })
+
+-- a section goes on up to a byte that is refused
+pub refused_on : (v : SectionView) (piece : List ℕ) (offset : ℕ) (part : Part) → IsSection v → IsRefused (IsWanted v) [] piece offset part → GoesOn (IsWanted v) [] (take offset piece)
+refused_on v piece offset part s r = next_unfinished (IsWanted v) (section_reader v s.left).once [] (take offset piece) part r.next
+
+header_halts : (c d : Course) (form : Form) (piece : List ℕ) (offset : ℕ) (part : Part) → c.stage ≡ stages.Header form → d.stage ≡ stages.Header form → IsOpen c → d.status ≡ c.status
+    → IsRefused (IsWanted c.section) [] piece offset part → (u : SectionView) → IsOnTheWay c.section (take offset piece) u → Halts c piece offset d
+header_halts c d form piece offset part e f o status r u k =
+    let v = c.section in
+    let of : Head = head_of c.status c.control.control in
+    let s : IsSection v = open_by c (stages.Header form) e o in
+    let m : Comes v.limits (in_header form of v) (take offset piece) [] (in_header form of u) =
+    header_goes_on form of v u (take offset piece) s.left k.leads k.same.limits (refused_on v piece offset part s r) in
+    halts_at c d piece offset (stages.Header form) (in_header form of u) e f status
+    (subst (λ (L : Bounds). Comes L (in_header form of v) (take offset piece) [] (in_header form of u)) o.course.section m) (λ shown. refl)
 
 pub header_refused : (c d : Course) (form : Form) (piece : List ℕ) (offset : ℕ) (part : Part) → c.stage ≡ stages.Header form → d.stage ≡ stages.Header form → IsOpen c
     → SectionShows c.section piece (sections.Dead offset part) → IsBehind c.section piece (sections.Dead offset part) d.section → d.limits ≡ c.limits → d.control.limits ≡ c.control.limits
-    → Says c piece (stepped.Dead offset part) d
-header_refused c d form piece offset part e f o h b limits control =
+    → d.status ≡ c.status → Says c piece (stepped.Dead offset part) d
+header_refused c d form piece offset part e f o h b limits control status =
     let of : Head = head_of c.status c.control.control in
     dead_of c d piece offset part (stages.Header form) e
     (dead_in c.limits c.section.limits (in_header form of c.section) piece offset part o.course.section
     (header_dead form of c.section piece offset part (open_by c (stages.Header form) e o).left h))
-    (stays_in c d (stages.Header form) e f o limits control b.limits refl (inl tt))
+    (stays_in c d (stages.Header form) e f o limits control b.limits refl (inl tt)) (header_halts c d form piece offset part e f o status h.refused b.stood.0 b.stood.1)
 
 pub header_limited : (c d : Course) (form : Form) (piece : List ℕ) (offset : ℕ) (part : Part) → c.stage ≡ stages.Header form → d.stage ≡ stages.Header form → IsOpen c
     → SectionShows c.section piece (sections.Limit offset part) → IsBehind c.section piece (sections.Limit offset part) d.section → d.limits ≡ c.limits → d.control.limits ≡ c.control.limits
-    → Says c piece (stepped.Limit offset part) d
-header_limited c d form piece offset part e f o h b limits control =
+    → d.status ≡ c.status → Says c piece (stepped.Limit offset part) d
+header_limited c d form piece offset part e f o h b limits control status =
     let of : Head = head_of c.status c.control.control in
     limit_of c d piece offset part (stages.Header form) e
     (limit_in c.limits c.section.limits (in_header form of c.section) piece offset part o.course.section
     (header_limit form of c.section piece offset part (open_by c (stages.Header form) e o).left h))
-    (stays_in c d (stages.Header form) e f o limits control b.limits refl (inl tt))
+    (stays_in c d (stages.Header form) e f o limits control b.limits refl (inl tt)) (header_halts c d form piece offset part e f o status h.refused b.stood.0 b.stood.1)
 
 -- ---- the trailer section
 
@@ -249,7 +339,7 @@ trailers_need c d form piece e f o some b g limits control status =
     let n : Comes c.limits (in_trailers form v) piece [] (in_trailers form w) = subst (λ (L : Bounds). Comes L (in_trailers form v) piece [] (in_trailers form w)) o.course.section m in
     taken_of c d piece (length piece) [] (stages.Trailers form) (stages.Trailers form) e f some (omega arith)
     (subst (λ (x : List ℕ). Comes c.limits (in_trailers form v) x [] (in_trailers form w)) (sym (take-length piece)) n)
-    limits (keeps c d o.course limits (ap (λ (x : ControlState). x.limits) control) b.limits) (section_on v w piece s b g) (omega arith) (record { head = head_kept c d control status; lines = inl tt })
+    limits (keeps c d o.course limits (ap (λ (x : ControlState). x.limits) control) b.limits) (section_on v w piece s b g) (omega arith) (record { head = head_kept c d control status; lines = inl tt; right = tt })
 
 pub trailers_end : (c d : Course) (form : Form) (piece : List ℕ) (taken : ℕ) → c.stage ≡ stages.Trailers form → d.stage ≡ stages.Padding 0 → IsOpen c → SectionShows c.section piece (sections.Whole taken)
     → IsBehind c.section piece (sections.Whole taken) d.section → d.limits ≡ c.limits → d.control ≡ c.control → d.status ≡ c.status → Says c piece (stepped.Trailers taken) d
@@ -261,7 +351,17 @@ trailers_end c d form piece taken e f o ends b limits control status =
     trailers_whole form v w (take taken piece) w.lines s.left b.leads.0 (same_lines v w piece taken b) (free_lines v w piece taken s b) in
     taken_of c d piece taken (trailer_section w.lines ∷ []) (stages.Trailers form) (stages.Padding 0) e f (whole_some v piece taken s ends) ends.within
     (subst (λ (L : Bounds). Comes L (in_trailers form v) (take taken piece) (trailer_section w.lines ∷ []) (in_padding 0)) o.course.section m)
-    limits (keeps c d o.course limits (ap (λ (x : ControlState). x.limits) control) b.limits) tt (omega arith) (record { head = head_kept c d control status; lines = whole_lines d b.stage })
+    limits (keeps c d o.course limits (ap (λ (x : ControlState). x.limits) control) b.limits) tt (omega arith) (record { head = head_kept c d control status; lines = whole_lines d b.stage; right = refl })
+
+trailers_halts : (c d : Course) (form : Form) (piece : List ℕ) (offset : ℕ) (part : Part) → c.stage ≡ stages.Trailers form → d.stage ≡ stages.Trailers form → IsOpen c → d.status ≡ c.status
+    → IsRefused (IsWanted c.section) [] piece offset part → (u : SectionView) → IsOnTheWay c.section (take offset piece) u → Halts c piece offset d
+trailers_halts c d form piece offset part e f o status r u k =
+    let v = c.section in
+    let s : IsSection v = open_by c (stages.Trailers form) e o in
+    let m : Comes v.limits (in_trailers form v) (take offset piece) [] (in_trailers form u) =
+    trailers_go_on form v u (take offset piece) s.left k.leads (refused_on v piece offset part s r) in
+    halts_at c d piece offset (stages.Trailers form) (in_trailers form u) e f status
+    (subst (λ (L : Bounds). Comes L (in_trailers form v) (take offset piece) [] (in_trailers form u)) o.course.section m) (λ shown. refl)
 
 pub trailers_refused : (c d : Course) (form : Form) (piece : List ℕ) (offset : ℕ) (part : Part) → c.stage ≡ stages.Trailers form → d.stage ≡ stages.Trailers form → IsOpen c
     → SectionShows c.section piece (sections.Dead offset part) → IsBehind c.section piece (sections.Dead offset part) d.section → d.limits ≡ c.limits → d.control ≡ c.control → d.status ≡ c.status
@@ -271,6 +371,7 @@ trailers_refused c d form piece offset part e f o h b limits control status =
     (dead_in c.limits c.section.limits (in_trailers form c.section) piece offset part o.course.section
     (trailers_dead form c.section piece offset part (open_by c (stages.Trailers form) e o).left h))
     (stays_in c d (stages.Trailers form) e f o limits (ap (λ (x : ControlState). x.limits) control) b.limits (head_kept c d control status) (inl tt))
+    (trailers_halts c d form piece offset part e f o status h.refused b.stood.0 b.stood.1)
 
 pub trailers_limited : (c d : Course) (form : Form) (piece : List ℕ) (offset : ℕ) (part : Part) → c.stage ≡ stages.Trailers form → d.stage ≡ stages.Trailers form → IsOpen c
     → SectionShows c.section piece (sections.Limit offset part) → IsBehind c.section piece (sections.Limit offset part) d.section → d.limits ≡ c.limits → d.control ≡ c.control → d.status ≡ c.status
@@ -280,6 +381,7 @@ trailers_limited c d form piece offset part e f o h b limits control status =
     (limit_in c.limits c.section.limits (in_trailers form c.section) piece offset part o.course.section
     (trailers_limit form c.section piece offset part (open_by c (stages.Trailers form) e o).left h))
     (stays_in c d (stages.Trailers form) e f o limits (ap (λ (x : ControlState). x.limits) control) b.limits (head_kept c d control status) (inl tt))
+    (trailers_halts c d form piece offset part e f o status h.refused b.stood.0 b.stood.1)
 
 -- ---- padding
 
@@ -294,7 +396,7 @@ padding_on c d before (byte ∷ piece) e f o some is limits control status secti
     (subst (λ (x : ℕ). Comes c.limits (in_padding before) (x ∷ []) [] (in_padding (before + 1))) (sym is)
     (record { within = step c.limits; anyway = step no_bounds; goes_on = padding_some c.limits (before + 1) }))
     limits (keeps c d o.course limits (ap (λ (x : ControlState). x.limits) control) (ap (λ (x : SectionView). x.limits) section)) tt (omega arith)
-    (record { head = head_kept c d control status; lines = inr (λ x. x, same_lines_shown c d section) })
+    (record { head = head_kept c d control status; lines = inr (λ x. x, same_lines_shown c d section); right = tt })
   where
     step : (K : Bounds) → IsResidual (Rest K (in_padding before)) (0 ∷ []) (λ q. q) (Rest K (in_padding (before + 1)))
     step K = residual_step (Rest K (in_padding before)) parts.Padding 0 (λ q. q) (Rest K (in_padding (before + 1))) (padding_zero K before)
@@ -304,7 +406,7 @@ pub padding_refused : (c : Course) (before : ℕ) (piece : List ℕ) → c.stage
 padding_refused c before piece e o some other =
     dead_of c c piece 0 parts.Padding (stages.Padding before) e
     (byte_dead (SomeOf (Rest c.limits (in_padding before))) (SomeOf (Rest no_bounds (in_padding before))) piece parts.Padding some (next c.limits) (none c.limits) (none no_bounds))
-    (stays_in c c (stages.Padding before) e e o refl refl refl refl (inr (λ x. x, refl)))
+    (stays_in c c (stages.Padding before) e e o refl refl refl refl (inr (λ x. x, refl))) (halts_here c c piece parts.Padding (stages.Padding before) e e refl (next c.limits))
   where
     next : (K : Bounds) → IsNext (SomeOf (Rest K (in_padding before))) [] parts.Padding
     next K = record { before = []; byte = 0; after = []; spelled = (ending Nothing (before + 1) ∷ [], (1, refl, refl)); begins = refl }

@@ -1,11 +1,13 @@
 -- What a walk says of a decoder, within the limit of the input.
-use Rattle.std.proofs.Common.{◌≡◌, ◌<◌, ◌≤◌, ◌+◌, ◌-◌, ℕ, Option, Some, None, List, [], ◌∷◌, length, take, refl, sym, ap, subst, ◌∙◌, inl, inr, ◌⊎◌, arith}
+use Rattle.std.proofs.Common.{◌≡◌, ◌<◌, ◌≤◌, ◌+◌, ◌-◌, ℕ, Option, Some, None, List, [], ◌∷◌, ◌++◌, length, take, drop, map, refl, sym, ap, subst, ◌∙◌, inl, inr, ◌⊎◌, arith}
+use Rattle.std.proofs.Math.Seq.{take-add}
 use Rattle.bh_spec.specs.declared.Form.{Form}
 use Rattle.bh_spec.specs.declared.Part.{Part}
 use Rattle.bh_spec.specs.declared.Refusal.{Refusal}
 use Rattle.bh_spec.specs.declared.Refusal.TheVariants.{Dead, Limit, TooLong}
 use Rattle.bh_spec.specs.Bounds.{Bounds, no_bounds}
-use Rattle.bh_spec.specs.Pieces.{SomeOf}
+use Rattle.bh_spec.specs.Pieces.{SomeOf, CanBecome, IsRefused}
+use Rattle.bh_spec.proofs.Residuals.{same_of}
 use Rattle.bh_spec.proofs.Within.{some_within}
 use Rattle.bh_fields.specs.Middle.{SectionView, Rest as section_rest}
 use Rattle.bh_spec.specs.Items.{Item, interim_response, head, content_byte, trailer_section, ending}
@@ -16,13 +18,14 @@ use Rattle.bh_push.specs.declared.course.Stage.TheVariants as stages
 use Rattle.bh_push.specs.declared.body.Phase.{Phase}
 use Rattle.bh_push.specs.declared.body.Phase.TheVariants as phases
 use Rattle.bh_push.specs.Bodies.{at_of}
-use Rattle.bh_push.specs.Decoders.{Rest}
-use Rattle.bh_push.specs.Standing.{Comes, LinesAre, EndsWith}
+use Rattle.bh_push.specs.Decoders.{At, Rest, IsBehindContent}
+use Rattle.bh_push.specs.Standing.{Comes, LinesAre, IsRight, EndsWith}
 use Rattle.bh_push.proofs.Walking.{lines_here}
 use Rattle.std.proofs.lemmas.Bool.{cases_lt}
-use Rattle.bh_push.specs.Courses.{shown_head, shown_lines, InSection, LinesKept, Stays, IsFull, IsDeadAt, IsLimitAt, at_by, place_of, IsSection, IsOpenBy, IsOpen, Walked}
-use Rattle.bh_push.specs.Hands.{Held, IsInSection, Handed, IsLong, Keeps, IsPrompt}
-use Rattle.bh_push.specs.Pushes.{DecoderView, Refuses, refused_at, refused_view}
+use Rattle.bh_push.specs.Courses.{shown_head, shown_lines, InSection, LinesKept, Stays, Stood, IsFull, IsDeadAt, IsLimitAt, at_by, place_of, IsSection, IsOpenBy, IsOpen, Walked}
+use Rattle.bh_push.specs.Hands.{kind_at, Held, IsInSection, Handed, IsLong, Keeps, IsPrompt}
+use Rattle.bh_push.specs.Pushes.{DecoderView, RefusesBehind, Refuses, refused_at, refused_view}
+use Rattle.bh_push.specs.Kinds.{KindBehind}
 use Rattle.bh_push.proofs.Inputs.{Fronted, front_long, front_of_front, dead_longer, limit_longer}
 
 abbrev pub view : Course → ℕ → Option Refusal → DecoderView
@@ -38,13 +41,16 @@ pub record Within (v : Course) (taken most : ℕ) (refusal : Option Refusal) (pi
   pub front : Fronted piece within (most - taken)
   pub none : refusal ≡ None
 
+takes_to : (v : Course) (at : At) (piece within : List ℕ) (room count : ℕ) (yields : List Item) → Fronted piece within room → count ≤ length within
+    → Comes v.limits (place_of v) (take count within) yields at → Takes Rest v.limits (place_of v) piece count yields at
+takes_to v at piece within room count yields f inside h =
+    let same : take count within ≡ take count piece = front_of_front piece within room count f inside in
+    let m : Comes v.limits (place_of v) (take count piece) yields at = subst (λ (x : List ℕ). Comes v.limits (place_of v) x yields at) same h in
+    record { inside = omega (arith, inside, front_long piece within room f); within = m.within; anyway = m.anyway; goes_on = m.goes_on }
+
 takes_so : (v w : Course) (piece within : List ℕ) (room count : ℕ) (yields : List Item) → Fronted piece within room → Walked v within count yields w
     → Takes Rest v.limits (place_of v) piece count yields (place_of w)
-takes_so v w piece within room count yields f h =
-    let same : take count within ≡ take count piece = front_of_front piece within room count f h.inside in
-    let m : Comes v.limits (place_of v) (take count piece) yields (place_of w) =
-    subst (λ (x : List ℕ). Comes v.limits (place_of v) x yields (place_of w)) same h.comes in
-    record { inside = omega (arith, h.inside, front_long piece within room f); within = m.within; anyway = m.anyway; goes_on = m.goes_on }
+takes_so v w piece within room count yields f h = takes_to v (place_of w) piece within room count yields f h.inside h.comes
 
 inside_at : (w : Course) (s : Stage) → InSection s → IsInSection (at_by s w)
 inside_at w stages.Framing h = absurd h
@@ -112,6 +118,30 @@ refused_so v w taken n r e f =
 stays_shown : (v w : Course) (taken n : ℕ) (given r : Option Refusal) → Stays v w → Keeps (held v taken given) (held w n r)
 stays_shown v w taken n given r s = record { head = s.head; lines = lines_so v w [] s.lines }
 
+-- where the byte stood
+refused_behind : (v w : Course) (taken most : ℕ) (refusal : Option Refusal) (piece within : List ℕ) (offset : ℕ) (part : Part) → Within v taken most refusal piece within → offset ≤ length within
+    → IsRefused (SomeOf (Rest v.limits (place_of v))) [] piece offset part → Stood v within offset w → RefusesBehind (view v taken None) piece offset
+refused_behind v w taken most refusal piece within offset part g inside r s =
+    let t = takes_to v s.at piece within (most - taken) offset [] g.front inside s.comes in
+    let same = same_of (Rest v.limits (place_of v)) (take offset piece) (λ q. [] ++ q) (Rest v.limits s.at) t.within in
+    record {
+      at = s.at;
+      takes = t;
+      none = λ c. r.after (subst (CanBecome (SomeOf (Rest v.limits (place_of v)))) (sym (take-add offset 1 piece)) ((same.becomes (take 1 (drop offset piece))).1 c));
+    }
+
+pub kind_behind : (v w : Course) (taken most n : ℕ) (refusal : Option Refusal) (piece within : List ℕ) (offset : ℕ) (r : Refusal) → Within v taken most refusal piece within → offset ≤ length within
+    → refused_at r ≡ taken + offset → Stood v within offset w → KindBehind (held v taken refusal) piece r (held w n (Some r))
+kind_behind v w taken most n refusal piece within offset r g inside e s =
+    record { offset = offset; place = e; at = s.at; takes = takes_to v s.at piece within (most - taken) offset [] g.front inside s.comes; same = s.kind }
+
+-- a byte that is too many stood behind those that were walked
+pub stood_behind : (v w : Course) (within : List ℕ) → Walked v within (length within) [] w → Stood v within (length within) w
+stood_behind v w within h = record { at = place_of w; comes = h.comes; kind = ap (kind_at (place_of w)) h.head }
+
+pub kind_again : (v : Held) (piece : List ℕ) (r : Refusal) → v.decoder.refusal ≡ Some r → v.decoder.refusal ≡ None → KindBehind v piece r v
+kind_again v piece r e none = absurd (let no : Some r ≡ None = sym e ∙ none in cc)
+
 pub refuses_more : (v w : Course) (taken most : ℕ) (refusal : Option Refusal) (piece within : List ℕ) → Within v taken most refusal piece within → length within < length piece
     → Walked v within (length within) [] w
     → let r = TooLong (taken + length within) in
@@ -133,40 +163,44 @@ refuses_more v w taken most None piece within g less h =
 refuses_more v w taken most (Some r) piece within g less h = absurd (let no = g.none in cc)
 
 pub refuses_at : (v w : Course) (taken most : ℕ) (refusal : Option Refusal) (piece within : List ℕ) (offset : ℕ) (part : Part) → Within v taken most refusal piece within
-    → IsDeadAt v within offset part → Stays v w
+    → IsDeadAt v within offset part → Stays v w → Stood v within offset w
     → let r = Dead (taken + offset) part in
     Refuses refusal (view v taken refusal) piece r (view w (taken + offset) (Some r)) × Keeps (held v taken refusal) (held w (taken + offset) (Some r))
-refuses_at v w taken most None piece within offset part g d s = (
-  (
-    (
-      offset,
-      refl,
-      some_within v.limits.input most (taken + offset + 1) g.input (omega (arith, g.few, d.refused.inside, front_long piece within (most - taken) g.front)),
-      dead_longer (SomeOf (Rest v.limits (place_of v))) (SomeOf (Rest no_bounds (place_of v))) piece within (most - taken) offset part g.front d,
-    ),
-    (place_of w, refused_so v w taken (taken + offset) (Dead (taken + offset) part) refl s.limits),
-  ),
-  stays_shown v w taken (taken + offset) None (Some (Dead (taken + offset) part)) s,
-)
-refuses_at v w taken most (Some r) piece within offset part g d s = absurd (let no = g.none in cc)
+refuses_at v w taken most None piece within offset part g d s k =
+    let all = dead_longer (SomeOf (Rest v.limits (place_of v))) (SomeOf (Rest no_bounds (place_of v))) piece within (most - taken) offset part g.front d in (
+      (
+        (
+          offset,
+          refl,
+          some_within v.limits.input most (taken + offset + 1) g.input (omega (arith, g.few, d.refused.inside, front_long piece within (most - taken) g.front)),
+          all,
+          refused_behind v w taken most None piece within offset part g (omega (arith, d.refused.inside)) all.refused k,
+        ),
+        (place_of w, refused_so v w taken (taken + offset) (Dead (taken + offset) part) refl s.limits),
+      ),
+      stays_shown v w taken (taken + offset) None (Some (Dead (taken + offset) part)) s,
+    )
+refuses_at v w taken most (Some r) piece within offset part g d s k = absurd (let no = g.none in cc)
 
 pub refuses_limit : (v w : Course) (taken most : ℕ) (refusal : Option Refusal) (piece within : List ℕ) (offset : ℕ) (part : Part) → Within v taken most refusal piece within
-    → IsLimitAt v within offset part → Stays v w
+    → IsLimitAt v within offset part → Stays v w → Stood v within offset w
     → let r = Limit (taken + offset) part in
     Refuses refusal (view v taken refusal) piece r (view w (taken + offset) (Some r)) × Keeps (held v taken refusal) (held w (taken + offset) (Some r))
-refuses_limit v w taken most None piece within offset part g d s = (
-  (
-    (
-      offset,
-      refl,
-      some_within v.limits.input most (taken + offset + 1) g.input (omega (arith, g.few, d.refused.inside, front_long piece within (most - taken) g.front)),
-      limit_longer (SomeOf (Rest v.limits (place_of v))) (SomeOf (Rest no_bounds (place_of v))) piece within (most - taken) offset part g.front d,
-    ),
-    (place_of w, refused_so v w taken (taken + offset) (Limit (taken + offset) part) refl s.limits),
-  ),
-  stays_shown v w taken (taken + offset) None (Some (Limit (taken + offset) part)) s,
-)
-refuses_limit v w taken most (Some r) piece within offset part g d s = absurd (let no = g.none in cc)
+refuses_limit v w taken most None piece within offset part g d s k =
+    let all = limit_longer (SomeOf (Rest v.limits (place_of v))) (SomeOf (Rest no_bounds (place_of v))) piece within (most - taken) offset part g.front d in (
+      (
+        (
+          offset,
+          refl,
+          some_within v.limits.input most (taken + offset + 1) g.input (omega (arith, g.few, d.refused.inside, front_long piece within (most - taken) g.front)),
+          all,
+          refused_behind v w taken most None piece within offset part g (omega (arith, d.refused.inside)) all.refused k,
+        ),
+        (place_of w, refused_so v w taken (taken + offset) (Limit (taken + offset) part) refl s.limits),
+      ),
+      stays_shown v w taken (taken + offset) None (Some (Limit (taken + offset) part)) s,
+    )
+refuses_limit v w taken most (Some r) piece within offset part g d s k = absurd (let no = g.none in cc)
 
 -- once more
 pub refuses_again : (v : Course) (taken : ℕ) (refusal : Option Refusal) (given : Refusal) (piece : List ℕ) → refusal ≡ Some given
@@ -178,6 +212,11 @@ refuses_again v taken (Some r) given piece e =
 -- an offset within the front is within the limit
 pub fits : (v : Course) (taken most : ℕ) (refusal : Option Refusal) (piece within : List ℕ) (count : ℕ) → Within v taken most refusal piece within → count ≤ length within → taken + count ≤ most
 fits v taken most refusal piece within count g h = omega (arith, g.few, h, front_long piece within (most - taken) g.front)
+
+-- behind content the place is right, whichever bytes it was
+pub right_content : (bytes : List ℕ) (w : At) → 0 < length bytes → IsRight (map content_byte bytes) w → IsBehindContent w
+right_content [] w some r = absurd (omega (arith, some))
+right_content (b ∷ bytes) w some r = r
 
 -- ---- no event stands where the decoder does
 

@@ -15,11 +15,13 @@ use Rattle.bh_spec.specs.declared.Part.TheVariants as parts
 use Rattle.bh_spec.specs.declared.Width.{Width}
 use Rattle.bh_spec.specs.Bounds.{Bounds, no_bounds}
 use Rattle.bh_spec.specs.Integers.{SomeBegins}
+use Rattle.bh_spec.specs.Pieces.{IsRefused}
+use Rattle.bh_spec.proofs.Pieces.{next_unfinished}
 use Rattle.bh_varint.specs.Step.{IsWhole, IsUnfinished}
 use Rattle.bh_fields.specs.Middle.{SectionView}
 use Rattle.bh_spec.specs.declared.PieceStep.{PieceStep}
 use Rattle.bh_spec.specs.Readings.{Shows as ReaderShows}
-use Rattle.bh_control.specs.Control.{IsWanted, IsUnlimited, ControlState, IsLeft, Leads, IsBehind, begun_state, Rest as state_rest}
+use Rattle.bh_control.specs.Control.{IsWanted, IsUnlimited, ControlState, IsLeft, Leads, IsOnTheWay, IsBehind, begun_state, Rest as state_rest}
 use Rattle.bh_spec.specs.declared.PieceStep.TheVariants as controls
 use Rattle.bh_control.specs.Numbers.{numbers}
 use Rattle.bh_spec.specs.Items.{Head, of_request}
@@ -33,10 +35,10 @@ use Rattle.bh_push.specs.declared.course.Stepped.TheVariants as stepped
 use Rattle.bh_push.specs.Completing.{AfterStart, AfterFraming}
 use Rattle.bh_push.specs.Decoders.{Rest, in_framing, in_control, before_header}
 use Rattle.bh_push.specs.Standing.{Comes, IsLeastStatus, read_in}
-use Rattle.bh_push.specs.Courses.{IsSilent, head_of, place_of, form_at, IsCounted, IsControlData, IsCourse, IsOpenBy, IsOpen, Says, FollowsFraming}
+use Rattle.bh_push.specs.Courses.{IsSilent, Halts, head_of, place_of, form_at, IsCounted, IsControlData, IsCourse, IsOpenBy, IsOpen, Says, FollowsFraming}
 use Rattle.bh_push.proofs.Begun.{request_at, control_begun}
-use Rattle.bh_push.proofs.Courses.{stays_in, same_lines_shown, taken_of, dead_of, limit_of, dead_in, limit_in, goes_more, some_taken, keeps, open_by, moves_at}
-use Rattle.bh_push.proofs.Requests.{control_goes_on, control_whole, control_dead, control_limit, weaker}
+use Rattle.bh_push.proofs.Courses.{stays_in, halts_at, halts_here, same_lines_shown, taken_of, dead_of, limit_of, dead_in, limit_in, goes_more, some_taken, keeps, open_by, moves_at}
+use Rattle.bh_push.proofs.Requests.{control_reader, control_goes_on, control_whole, control_dead, control_limit, weaker}
 
 -- ---- control data
 
@@ -71,7 +73,7 @@ control_need c d form piece e f o some b g limits section =
     (subst (λ (x : List ℕ). Comes c.limits (in_control form (read_in v)) x [] (in_control form (read_in w))) (sym (take-length piece))
     (subst (λ (L : Bounds). Comes L (in_control form (read_in v)) piece [] (in_control form (read_in w))) o.course.control m))
     limits (keeps c d o.course limits b.limits (ap (λ (x : SectionView). x.limits) section)) (control_on v w piece s b g) (omega arith)
-    (record { head = refl; lines = inr (λ x. x, same_lines_shown c d section) })
+    (record { head = refl; lines = inr (λ x. x, same_lines_shown c d section); right = tt })
 
 -- behind its last byte stands the header section
 pub control_end : (c d : Course) (form : Form) (piece : List ℕ) (taken : ℕ) → c.stage ≡ stages.Control form → d.stage ≡ stages.BeforeHeader form → IsOpen c
@@ -90,25 +92,37 @@ control_end c d form piece taken e f o ends b none limits section =
     taken_of c d piece taken [] (stages.Control form) (stages.BeforeHeader form) e f (some_taken (state_rest v.limits v) piece taken s.more ends) ends.within
     (subst (λ (x : Head). Comes c.limits (in_control form (read_in v)) (take taken piece) [] (before_header form x)) (sym (ap (λ (x : Option ℕ). head_of x w.control) none)) n)
     limits (keeps c d o.course limits b.limits (ap (λ (x : SectionView). x.limits) section)) tt (omega arith)
-    (record { head = refl; lines = inr (λ x. x, same_lines_shown c d section) })
+    (record { head = refl; lines = inr (λ x. x, same_lines_shown c d section); right = tt })
+
+control_halts : (c d : Course) (form : Form) (piece : List ℕ) (offset : ℕ) (part : Part) → c.stage ≡ stages.Control form → d.stage ≡ stages.Control form → IsOpen c → d.status ≡ c.status
+    → IsRefused (IsWanted c.control) [] piece offset part → (u : ControlState) → IsOnTheWay c.control (take offset piece) u → Halts c piece offset d
+control_halts c d form piece offset part e f o status r u k =
+    let v = c.control in
+    let s : IsControlData v = open_by c (stages.Control form) e o in
+    let g = next_unfinished (IsWanted v) (control_reader v.limits v s.left).once [] (take offset piece) part r.next in
+    let m : Comes v.limits (in_control form (read_in v)) (take offset piece) [] (in_control form (read_in u)) = control_goes_on form v u (take offset piece) s.left k.leads g in
+    halts_at c d piece offset (stages.Control form) (in_control form (read_in u)) e f status
+    (subst (λ (L : Bounds). Comes L (in_control form (read_in v)) (take offset piece) [] (in_control form (read_in u))) o.course.control m) (λ shown. refl)
 
 pub control_refused : (c d : Course) (form : Form) (piece : List ℕ) (offset : ℕ) (part : Part) → c.stage ≡ stages.Control form → d.stage ≡ stages.Control form → IsOpen c
     → ControlShows c.control piece (controls.Dead offset part) → IsBehind c.control piece (controls.Dead offset part) d.control → d.limits ≡ c.limits → d.section ≡ c.section
-    → Says c piece (stepped.Dead offset part) d
-control_refused c d form piece offset part e f o h b limits section =
+    → d.status ≡ c.status → Says c piece (stepped.Dead offset part) d
+control_refused c d form piece offset part e f o h b limits section status =
     dead_of c d piece offset part (stages.Control form) e
     (dead_in c.limits c.control.limits (in_control form (read_in c.control)) piece offset part o.course.control
     (control_dead form c.control piece offset part (open_by c (stages.Control form) e o).left h))
     (stays_in c d (stages.Control form) e f o limits b.limits (ap (λ (x : SectionView). x.limits) section) refl (inr (λ x. x, same_lines_shown c d section)))
+    (control_halts c d form piece offset part e f o status h.refused b.stood.0 b.stood.1)
 
 pub control_limited : (c d : Course) (form : Form) (piece : List ℕ) (offset : ℕ) (part : Part) → c.stage ≡ stages.Control form → d.stage ≡ stages.Control form → IsOpen c
     → ControlShows c.control piece (controls.Limit offset part) → IsBehind c.control piece (controls.Limit offset part) d.control → d.limits ≡ c.limits → d.section ≡ c.section
-    → Says c piece (stepped.Limit offset part) d
-control_limited c d form piece offset part e f o h b limits section =
+    → d.status ≡ c.status → Says c piece (stepped.Limit offset part) d
+control_limited c d form piece offset part e f o h b limits section status =
     limit_of c d piece offset part (stages.Control form) e
     (limit_in c.limits c.control.limits (in_control form (read_in c.control)) piece offset part o.course.control
     (control_limit form c.control piece offset part (open_by c (stages.Control form) e o).left h))
     (stays_in c d (stages.Control form) e f o limits b.limits (ap (λ (x : SectionView). x.limits) section) refl (inr (λ x. x, same_lines_shown c d section)))
+    (control_halts c d form piece offset part e f o status h.refused b.stood.0 b.stood.1)
 
 -- ---- the framing number
 
@@ -127,7 +141,7 @@ framing_on c d piece e f o some kept' live un limits control section =
     (subst (λ (x : List ℕ). Comes c.limits (in_framing c.number) x [] (in_framing d.number)) (sym (take_one piece some))
     (subst (λ (x : List ℕ). Comes c.limits (in_framing c.number) (get_or piece 0 0 ∷ []) [] (in_framing x)) (sym kept') m))
     limits (keeps c d o.course limits control (ap (λ (x : SectionView). x.limits) section)) (subst (IsCounted (numbers 0 3)) (sym kept') (record { live = live; unfinished = un })) (omega arith)
-    (record { head = refl; lines = inr (λ x. x, same_lines_shown c d section) })
+    (record { head = refl; lines = inr (λ x. x, same_lines_shown c d section); right = tt })
 
 pub framing_end : (c d : Course) (piece : List ℕ) (n : ℕ) (w : Width) → c.stage ≡ stages.Framing → IsOpen c → 0 < length piece → IsWhole (numbers 0 3) (c.number ++ get_or piece 0 0 ∷ []) n w
     → IsOpen d → d.limits ≡ c.limits → FollowsFraming n d → IsSilent c d → Says c piece (stepped.On 1) d
@@ -143,15 +157,17 @@ framing_end c d piece n w e o some whole stays limits follows same =
     (subst (λ (x : List ℕ). Comes c.limits (in_framing c.number) x [] (place_of d)) (sym (take_one piece some))
     (moves_at c.limits (in_framing c.number) (λ K. AfterFraming K k) d (get_or piece 0 0 ∷ []) [] m follows.at))
     limits stays.course stays.at (omega (arith, follows.at.zeros))
-    (record { head = same.head; lines = inr (λ x. x, same_lines_shown c d same.section) })
+    (record { head = same.head; lines = inr (λ x. x, same_lines_shown c d same.section); right = tt })
 
 pub framing_refused : (c d : Course) (piece : List ℕ) → c.stage ≡ stages.Framing → d.stage ≡ stages.Framing → IsOpen c → d.limits ≡ c.limits → d.control.limits ≡ c.control.limits
-    → d.section ≡ c.section → 0 < length piece → (SomeBegins (numbers 0 3) (c.number ++ get_or piece 0 0 ∷ []) → ⊥)
+    → d.section ≡ c.section → d.status ≡ c.status → 0 < length piece → (SomeBegins (numbers 0 3) (c.number ++ get_or piece 0 0 ∷ []) → ⊥)
     → Says c piece (stepped.Dead 0 parts.Framing) d
-framing_refused c d piece e f o limits control section some dead =
+framing_refused c d piece e f o limits control section status some dead =
     let s = open_by c stages.Framing e o in
-    dead_of c d piece 0 parts.Framing stages.Framing e (framing_dead c.limits c.number piece some o.course.five s.unfinished s.live dead)
+    let h = framing_dead c.limits c.number piece some o.course.five s.unfinished s.live dead in
+    dead_of c d piece 0 parts.Framing stages.Framing e h
     (stays_in c d stages.Framing e f o limits control (ap (λ (x : SectionView). x.limits) section) refl (inr (λ x. x, same_lines_shown c d section)))
+    (halts_here c d piece parts.Framing stages.Framing e f status h.refused.next)
 
 -- what follows the number
 pub request_open : (c d : Course) (form : Form) → d.stage ≡ stages.Control form → d.control ≡ begun_state c.control → IsCourse c → d.limits ≡ c.limits → d.section.limits ≡ c.section.limits → IsOpen d

@@ -10,12 +10,13 @@ use Rattle.bh_spec.specs.Bounds.{Bounds, IsWithin, no_bounds}
 use Rattle.bh_spec.specs.Integers.{byte_count, SomeBegins}
 use Rattle.bh_spec.specs.Messages.{Field}
 use Rattle.bh_spec.specs.Texts.{Text, bytes_of}
+use Rattle.bh_spec.specs.Pieces.{IsRefused}
 use Rattle.bh_spec.proofs.Within.{within_some, some_within}
 use Rattle.bh_model.specs.declared.field.Place.TheVariants.{Header}
 use Rattle.bh_varint.specs.Step.{IsWhole, IsUnfinished, GoesOn}
 use Rattle.bh_fields.specs.Sections.{SectionOf}
 use Rattle.bh_fields.specs.Middle.{SectionView, Rest as section_rest}
-use Rattle.bh_fields.specs.Readers.{IsBehind}
+use Rattle.bh_fields.specs.Readers.{IsWanted, IsOnTheWay, IsBehind}
 use Rattle.bh_spec.specs.declared.PieceStep.TheVariants as sections
 use Rattle.bh_control.specs.Numbers.{numbers}
 use Rattle.bh_spec.specs.Items.{of_response, interim_response}
@@ -28,8 +29,8 @@ use Rattle.bh_push.specs.declared.course.Stepped.TheVariants as stepped
 use Rattle.bh_push.specs.Completing.{AfterStart, InterimRest, ResponseRest}
 use Rattle.bh_push.specs.Decoders.{At, Rest, in_status, in_interim, before_header}
 use Rattle.bh_push.specs.Standing.{Comes, IsLeastStatus}
-use Rattle.bh_push.specs.Courses.{IsSilent, head_of, at_by, place_of, zeros_of, IsCounted, IsCourse, IsOpenBy, IsOpen, Says, FollowsInterim, FollowsFinal}
-use Rattle.bh_push.proofs.Courses.{SectionShows, stays_in, same_lines_shown, whole_lines, taken_of, dead_of, limit_of, dead_in, limit_in, keeps, open_by, moves_at, section_on, whole_some, same_lines, free_lines}
+use Rattle.bh_push.specs.Courses.{IsSilent, Halts, IsSection, head_of, at_by, place_of, zeros_of, IsCounted, IsCourse, IsOpenBy, IsOpen, Says, FollowsInterim, FollowsFinal}
+use Rattle.bh_push.proofs.Courses.{SectionShows, stays_in, halts_at, halts_here, refused_on, same_lines_shown, whole_lines, taken_of, dead_of, limit_of, dead_in, limit_in, keeps, open_by, moves_at, section_on, whole_some, same_lines, free_lines}
 use Rattle.bh_push.proofs.Requesting.{take_one, counted_nil, least_few}
 use Rattle.bh_push.proofs.Requests.{after_start, response_some, interim_whole}
 use Rattle.bh_push.proofs.Sections.{section_reader, both}
@@ -71,7 +72,7 @@ status_on c d form before least piece e f o some is kept' g limits control secti
           (record { live = g.begins; unfinished = g.unfinished })),
     )
     (omega arith)
-    (record { head = refl; lines = inr (λ x. x, same_lines_shown c d section) })
+    (record { head = refl; lines = inr (λ x. x, same_lines_shown c d section); right = tt })
 
 pub status_low : (L : Bounds) (before least n : ℕ) → IsLeastStatus L before least → least ≤ n → 100 ≤ n
 status_low L before least n (inl e) h = omega (arith, e.0, h)
@@ -100,7 +101,7 @@ status_end c d form before least n w piece e o some is whole high low few stays 
     ends m z = taken_of c d piece 1 [] (stages.Status form before) d.stage e refl (omega arith) (omega (arith, some))
         (subst (λ (x : List ℕ). Comes c.limits (in_status form before c.number) x [] (place_of d)) (sym (take_one piece some)) m)
         limits stays.course stays.at (omega (arith, z))
-        (record { head = same.head; lines = inr (λ x. x, same_lines_shown c d same.section) })
+        (record { head = same.head; lines = inr (λ x. x, same_lines_shown c d same.section); right = tt })
 
     at : IsWithin c.limits.interims before → IsUnfinished c.number → (n < 200) ⊎ (200 ≤ n) → Says c piece (stepped.On 1) d
     at within un (inl lt) =
@@ -123,22 +124,26 @@ status_end c d form before least n w piece e o some is whole high low few stays 
         (last ge)) (last ge).zeros
 
 pub status_refused : (c d : Course) (form : Form) (before least : ℕ) (piece : List ℕ) → c.stage ≡ stages.Status form before → d.stage ≡ stages.Status form before → IsOpen c → d.limits ≡ c.limits
-    → d.control.limits ≡ c.control.limits → d.section ≡ c.section → 0 < length piece → IsLeastStatus c.limits before least
+    → d.control.limits ≡ c.control.limits → d.section ≡ c.section → d.status ≡ c.status → 0 < length piece → IsLeastStatus c.limits before least
     → (SomeBegins (numbers 100 599) (c.number ++ get_or piece 0 0 ∷ []) → ⊥) → Says c piece (stepped.Dead 0 parts.Status) d
-status_refused c d form before least piece e f o limits control section some is dead =
+status_refused c d form before least piece e f o limits control section status some is dead =
     let s = open_by c (stages.Status form before) e o in
     let b = s.1 least is in
-    dead_of c d piece 0 parts.Status (stages.Status form before) e (status_dead c.limits form before least c.number piece some s.0 is b.unfinished b.live dead)
+    let h = status_dead c.limits form before least c.number piece some s.0 is b.unfinished b.live dead in
+    dead_of c d piece 0 parts.Status (stages.Status form before) e h
     (stays_in c d (stages.Status form before) e f o limits control (ap (λ (x : SectionView). x.limits) section) refl (inr (λ x. x, same_lines_shown c d section)))
+    (halts_here c d piece parts.Status (stages.Status form before) e f status h.refused.next)
 
 pub status_limited : (c d : Course) (form : Form) (before least : ℕ) (piece : List ℕ) → c.stage ≡ stages.Status form before → d.stage ≡ stages.Status form before → IsOpen c → d.limits ≡ c.limits
-    → d.control.limits ≡ c.control.limits → d.section ≡ c.section → 0 < length piece → IsLeastStatus c.limits before least
+    → d.control.limits ≡ c.control.limits → d.section ≡ c.section → d.status ≡ c.status → 0 < length piece → IsLeastStatus c.limits before least
     → (SomeBegins (numbers least 599) (c.number ++ get_or piece 0 0 ∷ []) → ⊥) → SomeBegins (numbers 100 599) (c.number ++ get_or piece 0 0 ∷ []) → Says c piece (stepped.Limit 0 parts.Status) d
-status_limited c d form before least piece e f o limits control section some is dead alive =
+status_limited c d form before least piece e f o limits control section status some is dead alive =
     let s = open_by c (stages.Status form before) e o in
     let b = s.1 least is in
-    limit_of c d piece 0 parts.Status (stages.Status form before) e (status_limit c.limits form before least c.number piece some s.0 is b.unfinished b.live dead alive)
+    let h = status_limit c.limits form before least c.number piece some s.0 is b.unfinished b.live dead alive in
+    limit_of c d piece 0 parts.Status (stages.Status form before) e h
     (stays_in c d (stages.Status form before) e f o limits control (ap (λ (x : SectionView). x.limits) section) refl (inr (λ x. x, same_lines_shown c d section)))
+    (halts_here c d piece parts.Status (stages.Status form before) e f status h.refused.next)
 
 -- ---- the section behind it
 
@@ -193,7 +198,7 @@ interim_need c d form before status piece e f o some b g limits control =
     (subst (λ (L : Bounds). Comes L (in_interim form before status v) piece [] (in_interim form before status w)) o.course.section m))
     limits (keeps c d o.course limits control b.limits)
     (subst (λ (L : Bounds). IsWithin L.interims (before + 1)) (sym limits) s.0, section_on v w piece s.1 b g) (omega arith)
-    (record { head = refl; lines = inl tt })
+    (record { head = refl; lines = inl tt; right = tt })
 
 pub interim_end : (c d : Course) (form : Form) (before status : ℕ) (piece : List ℕ) (taken : ℕ) → c.stage ≡ stages.Interim form before status → d.stage ≡ stages.Status form (before + 1)
     → d.number ≡ [] → IsOpen c → SectionShows c.section piece (sections.Whole taken) → IsBehind c.section piece (sections.Whole taken) d.section → d.limits ≡ c.limits → d.control.limits ≡ c.control.limits
@@ -213,12 +218,25 @@ interim_end c d form before status piece taken e f none o ends b limits control 
       λ least is. subst (IsCounted (numbers least 599)) (sym none) (counted_nil least (least_few d.limits (before + 1) least is)),
     )
     (omega arith)
-    (record { head = refl; lines = whole_lines d b.stage })
+    (record { head = refl; lines = whole_lines d b.stage; right = (form, before, ap (λ (x : List ℕ). in_status form (before + 1) x) none) })
+
+interim_halts : (c d : Course) (form : Form) (before status : ℕ) (piece : List ℕ) (offset : ℕ) (part : Part) → c.stage ≡ stages.Interim form before status → d.stage ≡ stages.Interim form before status
+    → IsOpen c → d.status ≡ c.status → IsRefused (IsWanted c.section) [] piece offset part → (u : SectionView) → IsOnTheWay c.section (take offset piece) u → Halts c piece offset d
+interim_halts c d form before status piece offset part e f o stays r u k =
+    let v = c.section in
+    let s = open_by c (stages.Interim form before status) e o in
+    let few : IsWithin v.limits.interims (before + 1) = subst (λ (L : Bounds). IsWithin L.interims (before + 1)) (sym o.course.section) s.0 in
+    let m : Comes v.limits (in_interim form before status v) (take offset piece) [] (in_interim form before status u) =
+    reader_goes_on (section_rest v.limits v) (section_rest no_bounds v) (section_rest v.limits u) (section_rest no_bounds u) (λ i. interim_response status i ∷ [])
+    (λ K i. ResponseRest K form (before + 1)) v.limits (take offset piece) (section_reader v s.1.left) (both v u (take offset piece) k.leads) (refused_on v piece offset part s.1 r)
+    (behind_interim v.limits form before (section_rest v.limits u) few) in
+    halts_at c d piece offset (stages.Interim form before status) (in_interim form before status u) e f stays
+    (subst (λ (L : Bounds). Comes L (in_interim form before status v) (take offset piece) [] (in_interim form before status u)) o.course.section m) (λ shown. refl)
 
 pub interim_refused : (c d : Course) (form : Form) (before status : ℕ) (piece : List ℕ) (offset : ℕ) (part : Part) → c.stage ≡ stages.Interim form before status → d.stage ≡ stages.Interim form before status
     → IsOpen c → SectionShows c.section piece (sections.Dead offset part) → IsBehind c.section piece (sections.Dead offset part) d.section → d.limits ≡ c.limits → d.control.limits ≡ c.control.limits
-    → Says c piece (stepped.Dead offset part) d
-interim_refused c d form before status piece offset part e f o h b limits control =
+    → d.status ≡ c.status → Says c piece (stepped.Dead offset part) d
+interim_refused c d form before status piece offset part e f o h b limits control stays =
     let v = c.section in
     let s = open_by c (stages.Interim form before status) e o in
     let few : IsWithin v.limits.interims (before + 1) = subst (λ (L : Bounds). IsWithin L.interims (before + 1)) (sym o.course.section) s.0 in
@@ -227,11 +245,12 @@ interim_refused c d form before status piece offset part e f o h b limits contro
     (reader_dead (section_rest v.limits v) (section_rest no_bounds v) (λ i. interim_response status i ∷ []) (λ K i. ResponseRest K form (before + 1)) v.limits (section_reader v s.1.left)
     (behind_interim v.limits form before (section_rest v.limits v) few) piece offset part h))
     (stays_in c d (stages.Interim form before status) e f o limits control b.limits refl (inl tt))
+    (interim_halts c d form before status piece offset part e f o stays h.refused b.stood.0 b.stood.1)
 
 pub interim_limited : (c d : Course) (form : Form) (before status : ℕ) (piece : List ℕ) (offset : ℕ) (part : Part) → c.stage ≡ stages.Interim form before status → d.stage ≡ stages.Interim form before status
     → IsOpen c → SectionShows c.section piece (sections.Limit offset part) → IsBehind c.section piece (sections.Limit offset part) d.section → d.limits ≡ c.limits → d.control.limits ≡ c.control.limits
-    → Says c piece (stepped.Limit offset part) d
-interim_limited c d form before status piece offset part e f o h b limits control =
+    → d.status ≡ c.status → Says c piece (stepped.Limit offset part) d
+interim_limited c d form before status piece offset part e f o h b limits control stays =
     let v = c.section in
     let s = open_by c (stages.Interim form before status) e o in
     let few : IsWithin v.limits.interims (before + 1) = subst (λ (L : Bounds). IsWithin L.interims (before + 1)) (sym o.course.section) s.0 in
@@ -240,3 +259,4 @@ interim_limited c d form before status piece offset part e f o h b limits contro
     (reader_limit (section_rest v.limits v) (section_rest no_bounds v) (λ i. interim_response status i ∷ []) (λ K i. ResponseRest K form (before + 1)) v.limits (section_reader v s.1.left)
     (behind_interim v.limits form before (section_rest v.limits v) few) (behind_interim no_bounds form before (section_rest no_bounds v) tt) piece offset part h))
     (stays_in c d (stages.Interim form before status) e f o limits control b.limits refl (inl tt))
+    (interim_halts c d form before status piece offset part e f o stays h.refused b.stood.0 b.stood.1)

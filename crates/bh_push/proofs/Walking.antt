@@ -16,8 +16,9 @@ use Rattle.bh_push.specs.declared.course.Stage.TheVariants as stages
 use Rattle.bh_push.specs.declared.course.Stepped.{Stepped}
 use Rattle.bh_push.specs.declared.course.Stepped.TheVariants as stepped
 use Rattle.bh_push.specs.Decoders.{At, Rest}
+use Rattle.bh_push.specs.Hands.{kind_at}
 use Rattle.bh_push.specs.Standing.{Comes, head_behind, LinesAre, EndsWith}
-use Rattle.bh_push.specs.Courses.{head_of, shown_lines, InSection, LinesKept, Stays, IsFull, IsDeadAt, IsLimitAt, Says, place_of, IsOpen, IsAlive, Taken, Walked}
+use Rattle.bh_push.specs.Courses.{head_of, shown_lines, InSection, LinesKept, Stays, Stood, Halts, kind_now, IsFull, IsDeadAt, IsLimitAt, Says, place_of, IsOpen, IsAlive, Taken, Walked}
 
 -- ---- what is shown
 
@@ -62,6 +63,7 @@ walk_here v piece o alive = record {
   zeros = omega arith;
   head = refl;
   lines = lines_here v;
+  right = tt;
 }
 
 -- bytes behind bytes
@@ -85,11 +87,24 @@ walk_on v w u piece rest i n yields e a taken =
       zeros = omega (arith, a.zeros, t.zeros);
       head = t.head ∙ ap (head_behind yields) a.head;
       lines = lines_on v w u yields a.lines t.lines;
+      right = t.right;
     }
 
 -- a byte is refused behind them
 pub stays_on : (v w u : Course) (piece : List ℕ) (i : ℕ) → Walked v piece i [] w → Stays w u → Stays v u
 stays_on v w u piece i a s = record { limits = s.limits ∙ a.limits; course = s.course; head = s.head ∙ a.head; lines = lines_on v w u [] a.lines s.lines }
+
+-- bytes behind those that were walked
+comes_behind : (v w : Course) (u : At) (piece rest : List ℕ) (i k : ℕ) → rest ≡ drop i piece → Walked v piece i [] w → Comes w.limits (place_of w) (take k rest) [] u
+    → Comes v.limits (place_of v) (take (i + k) piece) [] u
+comes_behind v w u piece rest i k e a m =
+    subst (λ (x : List ℕ). Comes v.limits (place_of v) x [] u) (ap (λ (r : List ℕ). take i piece ++ take k r) e ∙ sym (take-add i k piece))
+    (comes_on v.limits (place_of v) (place_of w) u (take i piece) (take k rest) [] a.comes (subst (λ (L : Bounds). Comes L (place_of w) (take k rest) [] u) a.limits m))
+
+-- where the byte stood
+pub stood_on : (v w u : Course) (piece rest : List ℕ) (i k : ℕ) → rest ≡ drop i piece → Walked v piece i [] w → Halts w rest k u → Stood v piece (i + k) u
+stood_on v w u piece rest i k e a s =
+    record { at = s.at; comes = comes_behind v w s.at piece rest i k e a s.comes; kind = s.kind ∙ sym s.there ∙ ap (kind_at s.at) a.head }
 
 pub walk_front : (piece rest front bytes : List ℕ) (i n : ℕ) → rest ≡ drop i piece → take n rest ≡ front ++ bytes → (all : List ℕ) × (take (i + n) piece ≡ all ++ bytes)
 walk_front piece rest front bytes i n e f = (
@@ -157,14 +172,22 @@ first_taken : (c b d : Course) (piece : List ℕ) (taken : ℕ) (yields : List I
 first_taken c b d piece taken yields a t =
     record { some = t.some; walked = subst (λ (k : ℕ). Walked c piece k yields d) (none_before taken) (walk_on c b d piece piece 0 taken yields refl a t) }
 
+first_halts : (c b d : Course) (piece : List ℕ) (offset : ℕ) → Walked c piece 0 [] b → kind_now b ≡ kind_now c → Halts b piece offset d → Halts c piece offset d
+first_halts c b d piece offset a same s = record {
+  at = s.at;
+  comes = subst (λ (k : ℕ). Comes c.limits (place_of c) (take k piece) [] s.at) (none_before offset) (comes_behind c b s.at piece piece 0 offset refl a s.comes);
+  there = ap (kind_at s.at) (sym a.head) ∙ s.there ∙ same;
+  kind = s.kind ∙ same;
+}
+
 -- what is said of the rest is said of the whole
-pub begun_says : (c b d : Course) (piece : List ℕ) (r : Stepped) → Walked c piece 0 [] b → Says b piece r d → Says c piece r d
-begun_says c b d piece (stepped.On taken) a s = first_taken c b d piece taken [] a s
-begun_says c b d piece (stepped.Interim taken status) a s = first_taken c b d piece taken (interim_response status d.section.lines ∷ []) a s
-begun_says c b d piece (stepped.Head taken) a s = first_taken c b d piece taken (head (head_of d.status d.control.control) d.section.lines ∷ []) a s
-begun_says c b d piece (stepped.Content taken bytes) a s = (first_taken c b d piece taken (map content_byte bytes.now) a s.0, s.1, s.2)
-begun_says c b d piece (stepped.Trailers taken) a s = first_taken c b d piece taken (trailer_section d.section.lines ∷ []) a s
-begun_says c b d piece (stepped.Dead offset part) a s =
-    (subst (λ (k : ℕ). IsDeadAt c piece k part) (none_before offset) (walk_dead c b piece piece 0 offset part refl a s.0), stays_on c b d piece 0 a s.1)
-begun_says c b d piece (stepped.Limit offset part) a s =
-    (subst (λ (k : ℕ). IsLimitAt c piece k part) (none_before offset) (walk_limit c b piece piece 0 offset part refl a s.0), stays_on c b d piece 0 a s.1)
+pub begun_says : (c b d : Course) (piece : List ℕ) (r : Stepped) → Walked c piece 0 [] b → kind_now b ≡ kind_now c → Says b piece r d → Says c piece r d
+begun_says c b d piece (stepped.On taken) a same s = first_taken c b d piece taken [] a s
+begun_says c b d piece (stepped.Interim taken status) a same s = first_taken c b d piece taken (interim_response status d.section.lines ∷ []) a s
+begun_says c b d piece (stepped.Head taken) a same s = first_taken c b d piece taken (head (head_of d.status d.control.control) d.section.lines ∷ []) a s
+begun_says c b d piece (stepped.Content taken bytes) a same s = (first_taken c b d piece taken (map content_byte bytes.now) a s.0, s.1, s.2)
+begun_says c b d piece (stepped.Trailers taken) a same s = first_taken c b d piece taken (trailer_section d.section.lines ∷ []) a s
+begun_says c b d piece (stepped.Dead offset part) a same s =
+    (subst (λ (k : ℕ). IsDeadAt c piece k part) (none_before offset) (walk_dead c b piece piece 0 offset part refl a s.0), stays_on c b d piece 0 a s.1, first_halts c b d piece offset a same s.2)
+begun_says c b d piece (stepped.Limit offset part) a same s =
+    (subst (λ (k : ℕ). IsLimitAt c piece k part) (none_before offset) (walk_limit c b piece piece 0 offset part refl a s.0), stays_on c b d piece 0 a s.1, first_halts c b d piece offset a same s.2)

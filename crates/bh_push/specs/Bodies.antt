@@ -15,7 +15,7 @@ use Rattle.bh_push.specs.declared.body.Phase.{Phase}
 use Rattle.bh_push.specs.declared.body.Phase.TheVariants as phases
 use Rattle.bh_push.specs.declared.body.BodyStep.{BodyStep}
 use Rattle.bh_push.specs.declared.body.BodyStep.TheVariants as body_steps
-use Rattle.bh_push.specs.Decoders.{length_part, At, behind_head, in_length, in_content, behind_content, Rest}
+use Rattle.bh_push.specs.Decoders.{length_part, At, behind_head, in_length, in_content, behind_content, Rest, IsBehindContent}
 
 -- each number is allowed
 abbrev pub any_length : Allowed
@@ -83,6 +83,20 @@ Says form v piece (body_steps.Over taken) w = (taken ≤ length piece) × (w ≡
     × (0 < taken)
 Says form v piece (body_steps.Dead offset) w = (L : Bounds)
     → IsDead (SomeOf (Rest L v)) (SomeOf (Rest no_bounds v)) [] piece offset (length_part form)
+
+-- where a byte stood that is refused: the bytes of the piece before it lead there and yield nothing
+abbrev pub StoodIn : Form → At → List ℕ → BodyStep → Type 0
+StoodIn form v piece body_steps.Need = Unit {0}
+StoodIn form v piece (body_steps.Content taken bytes) = Unit {0}
+StoodIn form v piece (body_steps.Over taken) = Unit {0}
+StoodIn form v piece (body_steps.Dead offset) = (phase : Phase) × (number : List ℕ) × Becomes v (take offset piece) [] (at_of phase form number)
+
+-- an event comes with its last byte, and takes nothing behind it
+abbrev pub IsRightIn : BodyStep → At → Type 0
+IsRightIn body_steps.Need w = Unit {0}
+IsRightIn (body_steps.Content taken bytes) w = IsBehindContent w
+IsRightIn (body_steps.Over taken) w = Unit {0}
+IsRightIn (body_steps.Dead offset) w = Unit {0}
 
 -- and what it knows then
 abbrev pub IsBodyBehind : BodyStep → Phase → List ℕ → Type 0

@@ -29,8 +29,9 @@ use Rattle.bh_push.specs.declared.course.Walked.{Walked as Walking}
 use Rattle.bh_push.specs.declared.course.Walked.TheVariants as walking
 use Rattle.bh_push.specs.Bodies.{at_of, IsBody}
 use Rattle.bh_push.specs.Completing.{AfterFraming, InterimRest, AfterStart}
+use Rattle.bh_push.specs.Hands.{kind_at}
 use Rattle.bh_push.specs.Decoders.{At, Rest, in_framing, in_control, in_status, before_interim, in_interim, before_header, in_header, in_trailers, in_padding}
-use Rattle.bh_push.specs.Standing.{Comes, IsLeastStatus, read_in, head_behind, LinesAre, EndsWith, IsRunOver}
+use Rattle.bh_push.specs.Standing.{Comes, IsLeastStatus, read_in, head_behind, LinesAre, IsRight, EndsWith, IsRunOver}
 
 -- ---- where it stands
 
@@ -167,6 +168,7 @@ pub record Walked (v : Course) (piece : List ℕ) (taken : ℕ) (yields : List I
   pub zeros : zeros_of w.stage ≤ zeros_of v.stage + taken
   pub head : shown_head w ≡ head_behind yields (shown_head v)
   pub lines : LinesAre yields (InSection w.stage) (LinesKept v w) (shown_lines w)
+  pub right : IsRight yields (place_of w)
 
 -- one at least
 pub record Taken (v : Course) (piece : List ℕ) (taken : ℕ) (yields : List Item) (w : Course) : Type 0 where
@@ -184,6 +186,23 @@ pub record Stays (v w : Course) : Type 0 where
   pub head : shown_head w ≡ shown_head v
   pub lines : InSection w.stage ⊎ LinesKept v w
 
+-- the kind of the message
+abbrev pub kind_now : Course → Option Kind
+kind_now c = kind_at (place_of c) (shown_head c)
+
+-- Where a byte stood that is refused: the bytes of the piece before it lead there and yield nothing, and the kind is the one there.
+pub record Stood (v : Course) (piece : List ℕ) (offset : ℕ) (w : Course) : Type 0 where
+  pub at : At
+  pub comes : Comes v.limits (place_of v) (take offset piece) [] at
+  pub kind : kind_now w ≡ kind_at at (shown_head v)
+
+-- the same within a phase, in which the kind stays
+pub record Halts (v : Course) (piece : List ℕ) (offset : ℕ) (w : Course) : Type 0 where
+  pub at : At
+  pub comes : Comes v.limits (place_of v) (take offset piece) [] at
+  pub there : kind_at at (shown_head v) ≡ kind_now v
+  pub kind : kind_now w ≡ kind_now v
+
 abbrev pub IsDeadAt : Course → List ℕ → ℕ → Part → Type 0
 IsDeadAt v piece offset part = IsDead (SomeOf (Rest v.limits (place_of v))) (SomeOf (Rest no_bounds (place_of v))) [] piece offset part
 
@@ -197,8 +216,8 @@ Says v piece (stepped.Head taken) w = Taken v piece taken (head (head_of w.statu
 Says v piece (stepped.Content taken bytes) w =
     Taken v piece taken (map content_byte bytes.now) w × EndsWith piece taken bytes.now × IsFull piece taken (place_of w)
 Says v piece (stepped.Trailers taken) w = Taken v piece taken (trailer_section w.section.lines ∷ []) w
-Says v piece (stepped.Dead offset part) w = IsDeadAt v piece offset part × Stays v w
-Says v piece (stepped.Limit offset part) w = IsLimitAt v piece offset part × Stays v w
+Says v piece (stepped.Dead offset part) w = IsDeadAt v piece offset part × Stays v w × Halts v piece offset w
+Says v piece (stepped.Limit offset part) w = IsLimitAt v piece offset part × Stays v w × Halts v piece offset w
 
 -- what the steps say, up to the first event
 abbrev pub Walks : Course → List ℕ → Walking → Course → Type 0
@@ -208,8 +227,8 @@ Walks v piece (walking.Head taken) w = (0 < taken) × Walked v piece taken (head
 Walks v piece (walking.Content taken bytes) w =
     Walked v piece taken (map content_byte bytes.now) w × EndsWith piece taken bytes.now × IsFull piece taken (place_of w)
 Walks v piece (walking.Trailers taken) w = (0 < taken) × Walked v piece taken (trailer_section w.section.lines ∷ []) w
-Walks v piece (walking.Dead offset part) w = IsDeadAt v piece offset part × Stays v w
-Walks v piece (walking.Limit offset part) w = IsLimitAt v piece offset part × Stays v w
+Walks v piece (walking.Dead offset part) w = IsDeadAt v piece offset part × Stays v w × Stood v piece offset w
+Walks v piece (walking.Limit offset part) w = IsLimitAt v piece offset part × Stays v w × Stood v piece offset w
 
 -- ---- what follows a number
 

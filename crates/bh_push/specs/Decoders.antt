@@ -1,5 +1,5 @@
 -- A decoder in the middle of a message: its phase with what is stored, and what completes the message from there.
-use Rattle.std.specs.Prelude.{ℕ, List, ◌++◌}
+use Rattle.std.specs.Prelude.{ℕ, ◌≡◌, ◌<◌, ◌⊎◌, List, [], ◌++◌}
 use Rattle.bh_spec.specs.declared.Part.{Part}
 use Rattle.bh_spec.specs.declared.Part.TheVariants as parts
 use Rattle.bh_spec.specs.declared.Form.{Form}
@@ -58,3 +58,8 @@ Rest L (in_content form missing) q t = ContentRest L form missing q t
 Rest L (behind_content form) q t = AfterContent L form q t
 Rest L (in_trailers form v) q t = TrailersRest (section_rest L v) q t
 Rest L (in_padding before) q t = PaddingRest before q t
+
+-- behind content: bytes of it are missing; or none is, and no byte behind it was taken
+abbrev pub IsBehindContent : At → Type 0
+IsBehindContent w = ((form : Form) × (missing : ℕ) × (0 < missing) × (w ≡ in_content form missing))
+    ⊎ ((w ≡ behind_content Known) ⊎ (w ≡ in_length Indeterminate []))

@@ -1,5 +1,6 @@
 -- What a decoder hands out, and what it shows beside where it stands.
-use Rattle.std.specs.Prelude.{ℕ, ◌≡◌, ◌<◌, ◌⊎◌, Option, Some, None, List, [], ◌∷◌, length, map}
+use Rattle.std.specs.Prelude.{ℕ, ◌≡◌, ◌<◌, ◌+◌, ◌⊎◌, Option, Some, None, List, [], ◌∷◌, length, map}
+use Rattle.bh_spec.specs.declared.Form.{Form}
 use Rattle.bh_spec.specs.declared.Kind.{Kind}
 use Rattle.bh_spec.specs.declared.Kind.TheVariants.{Request, Response}
 use Rattle.bh_spec.specs.Messages.{Control, Field}
@@ -8,7 +9,7 @@ use Rattle.bh_spec.specs.Items.{Item, Head, of_request, of_response, interim_res
 use Rattle.bh_fields.specs.Middle.{SectionView, Rest as section_rest}
 use Rattle.bh_push.specs.declared.decoder.Pushed.{Pushed}
 use Rattle.bh_push.specs.declared.decoder.Pushed.TheVariants as pushed
-use Rattle.bh_push.specs.Decoders.{At, in_framing, in_control, in_status, before_interim, in_interim, before_header, in_header, behind_head, in_length, in_content, behind_content, in_trailers, in_padding}
+use Rattle.bh_push.specs.Decoders.{At, in_framing, in_control, in_status, before_interim, in_interim, before_header, in_header, behind_head, in_length, in_content, behind_content, in_trailers, in_padding, IsBehindContent}
 use Rattle.bh_push.specs.Standing.{head_behind, LinesAre, EndsWith, IsRunOver}
 use Rattle.bh_push.specs.Pushes.{DecoderView, start_view, Took, Refuses}
 
@@ -65,6 +66,16 @@ Hands v piece (pushed.Content taken bytes) w =
     Handed v piece taken (map content_byte bytes.now) w × EndsWith piece taken bytes.now × IsLong v piece taken w
 Hands v piece (pushed.Trailers taken) w = (0 < taken) × (fields : List Field) × Handed v piece taken (trailer_section fields ∷ []) w
 Hands v piece (pushed.Refused r) w = Refuses v.decoder.refusal v.decoder piece r w.decoder × Keeps v w
+
+-- Behind an event the decoder stands right behind the thing that was handed out: it comes with its last byte, and takes nothing
+-- behind it.
+abbrev pub IsRightBehind : Pushed → At → Type 0
+IsRightBehind pushed.Need w = Unit {0}
+IsRightBehind (pushed.Interim taken status) w = (form : Form) × (before : ℕ) × (w ≡ in_status form (before + 1) [])
+IsRightBehind (pushed.Head taken) w = (form : Form) × (w ≡ behind_head form)
+IsRightBehind (pushed.Content taken bytes) w = IsBehindContent w
+IsRightBehind (pushed.Trailers taken) w = w ≡ in_padding 0
+IsRightBehind (pushed.Refused r) w = Unit {0}
 
 -- Nothing more would complete the section: it is whole.
 abbrev pub IsWhole : Bounds → SectionView → Type 0

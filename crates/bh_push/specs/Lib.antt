@@ -8,3 +8,4 @@ pub mod Courses
 pub mod Hands
 pub mod Ending
 pub mod Feeding
+pub mod Kinds

@@ -1,12 +1,12 @@
 -- What the calls of a decoder say, from the state that they find to the one that they leave.
-use Rattle.std.specs.Prelude.{ℕ, ◌≡◌, ◌<◌, ◌+◌, Option, Some, None, List, [], ◌∷◌, ◌++◌, length}
+use Rattle.std.specs.Prelude.{ℕ, ◌≡◌, ◌<◌, ◌+◌, Option, Some, None, List, [], ◌∷◌, ◌++◌, length, take, drop}
 use Rattle.bh_spec.specs.declared.Part.{Part}
 use Rattle.bh_spec.specs.declared.Omitted.{Omitted}
 use Rattle.bh_spec.specs.declared.Refusal.{Refusal}
 use Rattle.bh_spec.specs.declared.Refusal.TheVariants.{Dead, Limit, Ended, TooLong}
 use Rattle.bh_spec.specs.Bounds.{Bounds, IsWithin, no_bounds}
 use Rattle.bh_spec.specs.Messages.{Message}
-use Rattle.bh_spec.specs.Pieces.{IsText, IsNext, IsDead, IsLimit}
+use Rattle.bh_spec.specs.Pieces.{IsText, CanBecome, IsNext, IsDead, IsLimit}
 use Rattle.bh_spec.specs.Answers.{whole, refused, IsAnswer}
 use Rattle.bh_spec.specs.Items.{Item, ending, items}
 use Rattle.bh_spec.specs.Runs.{Takes, Call, bytes_taken, items_yielded, state_behind, AreTaken, Any}
@@ -41,12 +41,19 @@ pub record Took (v : DecoderView) (piece : List ℕ) (count : ℕ) (yields : Lis
   pub taken : w.taken ≡ v.taken + count
   pub refusal : w.refusal ≡ None
 
--- A refusal of a piece where none was given: of a byte of it, within the limit of the input; or of what is longer than that.
+-- Where a byte of a piece is refused: the bytes before it were taken, yield nothing and lead there, and nothing has the byte there.
+pub record RefusesBehind (v : DecoderView) (piece : List ℕ) (offset : ℕ) : Type 0 where
+  pub at : At
+  pub takes : Takes Rest v.limits v.at piece offset [] at
+  pub none : CanBecome (Any Rest v.limits at) (take 1 (drop offset piece)) → ⊥
+
+-- A refusal of a piece where none was given: of a byte of it, within the limit of the input; or of what is longer than that. It
+-- swallows no event.
 abbrev pub RefusesFirst : DecoderView → List ℕ → Refusal → Type 0
 RefusesFirst v piece (Dead at part) = (offset : ℕ) × (at ≡ v.taken + offset) × IsWithin v.limits.input (v.taken + offset + 1)
-    × IsDead (Any Rest v.limits v.at) (Any Rest no_bounds v.at) [] piece offset part
+    × IsDead (Any Rest v.limits v.at) (Any Rest no_bounds v.at) [] piece offset part × RefusesBehind v piece offset
 RefusesFirst v piece (Limit at part) = (offset : ℕ) × (at ≡ v.taken + offset) × IsWithin v.limits.input (v.taken + offset + 1)
-    × IsLimit (Any Rest v.limits v.at) (Any Rest no_bounds v.at) [] piece offset part
+    × IsLimit (Any Rest v.limits v.at) (Any Rest no_bounds v.at) [] piece offset part × RefusesBehind v piece offset
 RefusesFirst v piece (TooLong at) = (offset : ℕ) × (at ≡ v.taken + offset) × (v.limits.input ≡ Some at) × (offset < length piece)
     × ((w : At) × Takes Rest v.limits v.at piece offset [] w)
 RefusesFirst v piece (Ended at part) = ⊥

@@ -7,7 +7,7 @@ use Rattle.bh_spec.specs.Items.{Item, Head, interim_response, head, content_byte
 use Rattle.bh_spec.specs.Readers.{Moves}
 use Rattle.bh_control.specs.Control.{ControlState}
 use Rattle.bh_control.specs.Phases.{Read}
-use Rattle.bh_push.specs.Decoders.{At, Rest, in_content}
+use Rattle.bh_push.specs.Decoders.{At, Rest, in_status, behind_head, in_content, in_padding, IsBehindContent}
 
 -- the bytes, which yield the items, lead from v to w
 abbrev pub Comes : Bounds → At → List ℕ → List Item → At → Type 0
@@ -48,3 +48,12 @@ pub record EndsWith (piece : List ℕ) (taken : ℕ) (bytes : List ℕ) : Type 0
 -- no byte of the content, or of the chunk, is missing
 abbrev pub IsRunOver : At → Type 0
 IsRunOver at = (form : Form) (missing : ℕ) → at ≡ in_content form missing → ⊥
+
+-- the place right behind the thing that was handed out last: no byte behind it was taken
+abbrev pub IsRight : List Item → At → Type 0
+IsRight [] w = Unit {0}
+IsRight (interim_response status fields ∷ q) w = (form : Form) × (before : ℕ) × (w ≡ in_status form (before + 1) [])
+IsRight (head of fields ∷ q) w = (form : Form) × (w ≡ behind_head form)
+IsRight (content_byte x ∷ q) w = IsBehindContent w
+IsRight (trailer_section fields ∷ q) w = w ≡ in_padding 0
+IsRight (ending omitted padding ∷ q) w = Unit {0}

@@ -1,7 +1,7 @@
 //! Content, in pieces of any length.
 ghost use Rattle.std.specs.Prelude.{◌≡◌, ◌<◌, ◌≤◌, ◌-◌, ◌↔◌, ℕ, IsTrue, IsFalse, length, take, min};
 ghost use Rattle.bh_push.specs.Bodies.{any_length as any_length_set, at_of, phase_behind, phase_of};
-ghost use Rattle.bh_push.specs.Bodies.{IsBody, IsBodyBehind, IsCounting, Goes, Stops, Says};
+ghost use Rattle.bh_push.specs.Bodies.{IsBody, IsBodyBehind, IsCounting, Goes, Stops, Says, StoodIn, IsRightIn};
 
 use crate::slices::{behind, front};
 use bh_model::Form;
@@ -48,6 +48,8 @@ impl Body {
         requires open { self.old.phase ≡ Phase.Over → ⊥ }
         ensures says { Says self.old.form (at_of self.old.phase self.old.form self.old.number) piece.now result
             (at_of self.new.phase self.new.form self.new.number) }
+        ensures stood { StoodIn self.old.form (at_of self.old.phase self.old.form self.old.number) piece.now result }
+        ensures right { IsRightIn result (at_of self.new.phase self.new.form self.new.number) }
         ensures form { self.new.form ≡ self.old.form }
         ensures body { IsBodyBehind result self.new.phase self.new.number }
     {

@@ -5,7 +5,8 @@ ghost use Rattle.bh_spec.specs.Runs.{Any};
 ghost use Rattle.bh_model.specs.Values.{control_lent};
 ghost use Rattle.bh_push.specs.Decoders.{Rest};
 ghost use Rattle.bh_push.specs.Pushes.{Finishes, Fails};
-ghost use Rattle.bh_push.specs.Hands.{start_held, Hands, Keeps, IsPrompt, kind_at, status_shown, control_shown};
+ghost use Rattle.bh_push.specs.Kinds.{IsSameKind};
+ghost use Rattle.bh_push.specs.Hands.{start_held, Hands, Keeps, IsRightBehind, IsPrompt, kind_at, status_shown, control_shown};
 
 use crate::body::{Body, Phase};
 use crate::course::{Course, End, Stage, Walked};
@@ -111,6 +112,8 @@ impl Decoder {
     /// until `begin`.
     pub fn push<'p>(&mut self, piece: &'p [u8]) -> Pushed<'p>
         ensures hands { Hands self.old piece.now result self.new }
+        ensures right { IsRightBehind result self.new.decoder.at }
+        ensures kind { IsSameKind self.old piece.now result self.new }
         ensures prompt { self.new.decoder.refusal ≡ None → IsPrompt self.new.decoder.limits self.new.decoder.at }
     {
         if let Some(refusal) = self.refusal {

@@ -6,6 +6,9 @@ use std::test::Fail;
 /// A request of known length, up to its header section.
 const REQUEST: [u8; 14] = *b"\x00\x03GET\x05https\x00\x01/";
 
+/// A request with content, and a byte that no trailer section begins with.
+const REFUSED: [u8; 19] = *b"\x00\x03GET\x05https\x00\x01/\x00\x02hi\x01";
+
 /// A request in chunks, without a trailer section.
 const CHUNKS: [u8; 21] = *b"\x02\x04POST\x05https\x00\x01/\x00\x03abc\x00";
 
@@ -49,6 +52,26 @@ fn each_rest_is_pushed_again(rt: HostRuntime) -> Result<(), Fail> {
                 padding: 0
             })
         )
+    );
+    Ok(())
+}
+
+#[test]
+fn events_before_a_refused_byte_are_handed_out_first(rt: HostRuntime) -> Result<(), Fail> {
+    let mut decoder = Decoder::new(rt.alloc(), &Limits::default())?;
+    let pieces = (
+        told(decoder.push(&REFUSED)),
+        told(decoder.push(&REFUSED[15..])),
+        told(decoder.push(&REFUSED[18..])),
+    );
+    let kind = decoder.kind();
+    let dead = Refusal::Dead {
+        at: 18,
+        part: Part::SectionLength,
+    };
+    assert_eq!(rt;
+        (pieces, kind, decoder.finish()),
+        (((2, 15), (3, 3), (5, 18)), Some(Kind::Request), Err(dead))
     );
     Ok(())
 }

@@ -42,6 +42,13 @@ LeadsTo A C B D piece (steps.Whole taken) i = Leads A C B D (take taken piece) �
 LeadsTo A C B D piece (steps.Dead offset part) i = Unit {0}
 LeadsTo A C B D piece (steps.Limit offset part) i = Unit {0}
 
+-- Where a reader stood at the byte that it refuses. `On bytes w`: the bytes lead to w, and it still reads there.
+abbrev pub StoodBefore : {V : Type 0} → (List ℕ → V → Type 0) → List ℕ → PieceStep → Type 0
+StoodBefore {V} On piece steps.Need = Unit {0}
+StoodBefore {V} On piece (steps.Whole taken) = Unit {0}
+StoodBefore {V} On piece (steps.Dead offset part) = (w : V) × On (take offset piece) w
+StoodBefore {V} On piece (steps.Limit offset part) = (w : V) × On (take offset piece) w
+
 -- what a byte makes of a reader, and where it stands behind it
 abbrev pub Takes : {I : Type 0} → (A C B D : I → Text → Type 0) → ℕ → Judged → Stage → I → Type 0
 Takes A C B D byte judged.More stage i = (stage ≡ reading) × Leads A C B D (byte ∷ [])

@@ -3,8 +3,8 @@ use Rattle.std.proofs.lemmas.List.{take_all}
 use Rattle.bh_decode.proofs.Paddings.{padding_whole, padding_dead}
 use Rattle.bh_decode.proofs.padding.read_padding.Goals as goal
 
-pub returns-then-byte-ne0-clause-stops : goal.returns-then-byte-ne0-clause-stops
-returns-then-byte-ne0-clause-stops c = padding_dead c.args.bytes.now c.loop-i.i c.loop-i.invariant c.loop-i-test.true c.if-byte-ne0.true
+pub returns-then-not-is_zero-clause-stops : goal.returns-then-not-is_zero-clause-stops
+returns-then-not-is_zero-clause-stops c = padding_dead c.args.bytes.now c.loop-i.i c.loop-i.invariant c.loop-i-test.true (c.is_zero.ensures.other c.if-not-is_zero.true)
 
 pub returns-clause-whole : goal.returns-clause-whole
 returns-clause-whole c =

@@ -10,7 +10,7 @@ returns-in-Need c =
 pub returns-in-Content : goal.returns-in-Content
 returns-in-Content c =
     content_some c.args.self.now _ c.args.piece.now c.in-Content.bytes.now c.in-Content.taken c.requires.stage c.requires.stage c.requires.open c.in-Content.ensures.says c.in-Content.ensures.body
-    (record { limits = refl; control = refl; status = refl; section = refl })
+    (record { limits = refl; control = refl; status = refl; section = refl }) c.in-Content.ensures.right
 
 pub returns-in-Over : goal.returns-in-Over
 returns-in-Over c =
@@ -22,4 +22,4 @@ pub returns-in-Dead : goal.returns-in-Dead
 returns-in-Dead c =
     content_refused c.args.self.now _ c.args.piece.now c.in-Dead.offset c.push.new.self.form c.length_part.result c.requires.stage c.requires.stage c.requires.open
     (record { limits = refl; control = refl; status = refl; section = refl }) c.in-Dead.ensures.form c.length_part.ensures
-    c.in-Dead.ensures.says
+    c.in-Dead.ensures.says c.in-Dead.ensures.stood.0 c.in-Dead.ensures.stood.1 c.in-Dead.ensures.stood.2

@@ -19,5 +19,5 @@ returns-in-Value c =
 
 pub returns-in-Dead : goal.returns-in-Dead
 returns-in-Dead c =
-    framing_refused c.args.self.now _ c.args.piece.now c.requires.stage c.requires.stage c.requires.open refl refl refl c.requires.some
+    framing_refused c.args.self.now _ c.args.piece.now c.requires.stage c.requires.stage c.requires.open refl refl refl refl c.requires.some
     (subst (λ (s : Allowed). SomeBegins s (c.args.self.now.number ++ get_or c.args.piece.now 0 0 ∷ []) → ⊥) c.numbers.ensures c.in-Dead.ensures.shows)

@@ -23,9 +23,9 @@ returns-in-Whole c =
 pub returns-in-Dead : goal.returns-in-Dead
 returns-in-Dead c =
     interim_refused c.args.self.now _ c.args.form c.args.before c.args.status c.args.piece.now c.in-Dead.offset c.in-Dead.part c.requires.stage c.requires.stage c.requires.open
-    c.in-Dead.ensures.shows c.in-Dead.ensures.behind refl refl
+    c.in-Dead.ensures.shows c.in-Dead.ensures.behind refl refl refl
 
 pub returns-in-Limit : goal.returns-in-Limit
 returns-in-Limit c =
     interim_limited c.args.self.now _ c.args.form c.args.before c.args.status c.args.piece.now c.in-Limit.offset c.in-Limit.part c.requires.stage c.requires.stage c.requires.open
-    c.in-Limit.ensures.shows c.in-Limit.ensures.behind refl refl
+    c.in-Limit.ensures.shows c.in-Limit.ensures.behind refl refl refl

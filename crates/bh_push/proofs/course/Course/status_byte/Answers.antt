@@ -29,7 +29,7 @@ pub returns-in-Dead : goal.returns-in-Dead
 returns-in-Dead c =
     let l = c.least_status-least in
     let is = least_is c.args.self.now.limits c.args.before c.interims.result l.result c.interims.ensures.value l.ensures.some l.ensures.none in
-    status_limited c.args.self.now _ c.args.form c.args.before l.result c.args.piece.now c.requires.stage c.requires.stage c.requires.open refl refl refl c.requires.some is
+    status_limited c.args.self.now _ c.args.form c.args.before l.result c.args.piece.now c.requires.stage c.requires.stage c.requires.open refl refl refl refl c.requires.some is
     (subst (λ (s : Allowed). SomeBegins s (c.args.self.now.number ++ get_or c.args.piece.now 0 0 ∷ []) → ⊥) c.numbers-2.ensures c.in-Dead.ensures.shows)
     (subst (λ (s : Allowed). SomeBegins s (c.args.self.now.number ++ get_or c.args.piece.now 0 0 ∷ [])) c.numbers.ensures (c.alive-known.ensures.0 c.if-known.true))
 
@@ -37,5 +37,5 @@ pub returns-in-Dead-2 : goal.returns-in-Dead-2
 returns-in-Dead-2 c =
     let l = c.least_status-least in
     let is = least_is c.args.self.now.limits c.args.before c.interims.result l.result c.interims.ensures.value l.ensures.some l.ensures.none in
-    status_refused c.args.self.now _ c.args.form c.args.before l.result c.args.piece.now c.requires.stage c.requires.stage c.requires.open refl refl refl c.requires.some is
+    status_refused c.args.self.now _ c.args.form c.args.before l.result c.args.piece.now c.requires.stage c.requires.stage c.requires.open refl refl refl refl c.requires.some is
     (λ b. false≢true (sym c.if-known.false ∙ c.alive-known.ensures.1 (subst (λ (s : Allowed). SomeBegins s (c.args.self.now.number ++ get_or c.args.piece.now 0 0 ∷ [])) (sym c.numbers.ensures) b)))

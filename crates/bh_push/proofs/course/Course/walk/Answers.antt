@@ -1,7 +1,7 @@
 use Rattle.std.proofs.Common.{◌∷◌, [], map, arith}
 use Rattle.bh_spec.specs.Items.{interim_response, head, content_byte, trailer_section}
 use Rattle.bh_push.specs.Courses.{head_of, place_of}
-use Rattle.bh_push.proofs.Walking.{walk_here, walk_on, ends_on, full_on, stays_on, walk_dead, walk_limit, walk_all}
+use Rattle.bh_push.proofs.Walking.{walk_here, walk_on, ends_on, full_on, stays_on, stood_on, walk_dead, walk_limit, walk_all}
 use Rattle.bh_push.proofs.course.Course.walk.Goals as goal
 
 pub loop-at-init : goal.loop-at-init
@@ -46,12 +46,14 @@ pub returns-in-Dead : goal.returns-in-Dead
 returns-in-Dead c = (
   walk_dead c.args.self.now c.loop-at.self c.args.piece.now c.behind.result.now c.loop-at.at c.in-Dead.offset c.in-Dead.part c.behind.ensures c.loop-at.invariant c.in-Dead.ensures.0,
   stays_on c.args.self.now c.loop-at.self c.step.new.self c.args.piece.now c.loop-at.at c.loop-at.invariant c.in-Dead.ensures.1,
+  stood_on c.args.self.now c.loop-at.self c.step.new.self c.args.piece.now c.behind.result.now c.loop-at.at c.in-Dead.offset c.behind.ensures c.loop-at.invariant c.in-Dead.ensures.2,
 )
 
 pub returns-in-Limit : goal.returns-in-Limit
 returns-in-Limit c = (
   walk_limit c.args.self.now c.loop-at.self c.args.piece.now c.behind.result.now c.loop-at.at c.in-Limit.offset c.in-Limit.part c.behind.ensures c.loop-at.invariant c.in-Limit.ensures.0,
   stays_on c.args.self.now c.loop-at.self c.step.new.self c.args.piece.now c.loop-at.at c.loop-at.invariant c.in-Limit.ensures.1,
+  stood_on c.args.self.now c.loop-at.self c.step.new.self c.args.piece.now c.behind.result.now c.loop-at.at c.in-Limit.offset c.behind.ensures c.loop-at.invariant c.in-Limit.ensures.2,
 )
 
 pub returns : goal.returns

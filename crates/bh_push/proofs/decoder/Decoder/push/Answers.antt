@@ -1,12 +1,13 @@
-use Rattle.std.proofs.Common.{◌+◌, ◌∷◌, [], ℕ, List, Some, length, map, subst, arith}
+use Rattle.std.proofs.Common.{◌+◌, ◌∷◌, [], ◌≡◌, ℕ, List, Some, None, length, map, refl, subst, arith}
 use Rattle.bh_spec.specs.declared.Refusal.TheVariants.{Dead, Limit, TooLong}
 use Rattle.bh_spec.proofs.Within.{within_some}
 use Rattle.bh_spec.specs.Items.{interim_response, head, content_byte, trailer_section}
-use Rattle.bh_push.specs.Courses.{head_of}
+use Rattle.bh_push.specs.Courses.{head_of, place_of}
 use Rattle.bh_push.specs.Hands.{Held, Handed, IsLong, Keeps}
 use Rattle.bh_push.specs.Pushes.{Refuses}
+use Rattle.bh_push.specs.Kinds.{KindBehind}
 use Rattle.bh_push.proofs.Inputs.{not_some}
-use Rattle.bh_push.proofs.Handing.{Within, view, held, handed_walk, handed_whole, ends_so, long_so, refuses_more, refuses_at, refuses_limit, refuses_again}
+use Rattle.bh_push.proofs.Handing.{right_content, kind_behind, kind_again, stood_behind, Within, view, held, handed_walk, handed_whole, ends_so, long_so, refuses_more, refuses_at, refuses_limit, refuses_again}
 use Rattle.bh_push.proofs.decoder.Decoder.push.Goals as goal
 
 pub returns-in-Some-clause-hands : goal.returns-in-Some-clause-hands
@@ -147,7 +148,7 @@ returns-in-Dead-clause-hands c =
     let n = d.taken + c.in-Dead.offset in
     let r = Dead n c.in-Dead.part in
     subst (λ (v : Held). Refuses v.decoder.refusal v.decoder piece r (view w n (Some r)) × Keeps v (held w n (Some r))) c.self.view_is
-    (refuses_at d.course w d.taken most d.refusal piece within c.in-Dead.offset c.in-Dead.part g c.in-Dead.ensures.0 c.in-Dead.ensures.1)
+    (refuses_at d.course w d.taken most d.refusal piece within c.in-Dead.offset c.in-Dead.part g c.in-Dead.ensures.0 c.in-Dead.ensures.1 c.in-Dead.ensures.2)
 
 pub returns-in-Limit-clause-hands : goal.returns-in-Limit-clause-hands
 returns-in-Limit-clause-hands c =
@@ -165,4 +166,81 @@ returns-in-Limit-clause-hands c =
     let n = d.taken + c.in-Limit.offset in
     let r = Limit n c.in-Limit.part in
     subst (λ (v : Held). Refuses v.decoder.refusal v.decoder piece r (view w n (Some r)) × Keeps v (held w n (Some r))) c.self.view_is
-    (refuses_limit d.course w d.taken most d.refusal piece within c.in-Limit.offset c.in-Limit.part g c.in-Limit.ensures.0 c.in-Limit.ensures.1)
+    (refuses_limit d.course w d.taken most d.refusal piece within c.in-Limit.offset c.in-Limit.part g c.in-Limit.ensures.0 c.in-Limit.ensures.1 c.in-Limit.ensures.2)
+
+-- ---- the kind
+
+pub returns-in-Some-clause-kind : goal.returns-in-Some-clause-kind
+returns-in-Some-clause-kind c =
+    let d = c.self.inside in
+    subst (λ (v : Held). v.decoder.refusal ≡ None → KindBehind v c.args.piece.now c.in-Some.refusal v) c.self.view_is
+    (kind_again (held d.course d.taken d.refusal) c.args.piece.now c.in-Some.refusal c.in-Some.is)
+
+pub returns-then-within-piece-clause-kind : goal.returns-then-within-piece-clause-kind
+returns-then-within-piece-clause-kind c =
+    let d = c.self.inside in
+    let w = c.walk.new.self in
+    let piece : List ℕ = c.args.piece.now in
+    let within : List ℕ = c.first_of-within.result.now in
+    let most = c.input.result in
+    let g : Within d.course d.taken most d.refusal piece within = record {
+      input = c.input.ensures.value;
+      few = within_some d.course.limits.input most d.taken c.input.ensures.value c.self.invariant.counted;
+      front = record { same = c.first_of-within.ensures };
+      none = not_some d.refusal c.in_default.not-Some;
+    } in
+    let n = d.taken + length within in
+    let r = TooLong n in
+    subst (λ (v : Held). v.decoder.refusal ≡ None → KindBehind v piece r (held w n (Some r))) c.self.view_is
+    (λ none. kind_behind d.course w d.taken most n d.refusal piece within (length within) r g (omega arith) refl (stood_behind d.course w within c.in-Need.ensures))
+
+pub returns-in-Dead-clause-kind : goal.returns-in-Dead-clause-kind
+returns-in-Dead-clause-kind c =
+    let d = c.self.inside in
+    let w = c.walk.new.self in
+    let piece : List ℕ = c.args.piece.now in
+    let within : List ℕ = c.first_of-within.result.now in
+    let most = c.input.result in
+    let g : Within d.course d.taken most d.refusal piece within = record {
+      input = c.input.ensures.value;
+      few = within_some d.course.limits.input most d.taken c.input.ensures.value c.self.invariant.counted;
+      front = record { same = c.first_of-within.ensures };
+      none = not_some d.refusal c.in_default.not-Some;
+    } in
+    let n = d.taken + c.in-Dead.offset in
+    let r = Dead n c.in-Dead.part in
+    subst (λ (v : Held). v.decoder.refusal ≡ None → KindBehind v piece r (held w n (Some r))) c.self.view_is
+    (λ none. kind_behind d.course w d.taken most n d.refusal piece within (c.in-Dead.offset) r g (omega (arith, c.in-Dead.ensures.0.refused.inside)) refl c.in-Dead.ensures.2)
+
+pub returns-in-Limit-clause-kind : goal.returns-in-Limit-clause-kind
+returns-in-Limit-clause-kind c =
+    let d = c.self.inside in
+    let w = c.walk.new.self in
+    let piece : List ℕ = c.args.piece.now in
+    let within : List ℕ = c.first_of-within.result.now in
+    let most = c.input.result in
+    let g : Within d.course d.taken most d.refusal piece within = record {
+      input = c.input.ensures.value;
+      few = within_some d.course.limits.input most d.taken c.input.ensures.value c.self.invariant.counted;
+      front = record { same = c.first_of-within.ensures };
+      none = not_some d.refusal c.in_default.not-Some;
+    } in
+    let n = d.taken + c.in-Limit.offset in
+    let r = Limit n c.in-Limit.part in
+    subst (λ (v : Held). v.decoder.refusal ≡ None → KindBehind v piece r (held w n (Some r))) c.self.view_is
+    (λ none. kind_behind d.course w d.taken most n d.refusal piece within (c.in-Limit.offset) r g (omega (arith, c.in-Limit.ensures.0.refused.inside)) refl c.in-Limit.ensures.2)
+
+-- ---- the place behind an event
+
+pub returns-in-Interim-clause-right : goal.returns-in-Interim-clause-right
+returns-in-Interim-clause-right c = c.in-Interim.ensures.1.right
+
+pub returns-in-Head-clause-right : goal.returns-in-Head-clause-right
+returns-in-Head-clause-right c = c.in-Head.ensures.1.right
+
+pub returns-in-Content-clause-right : goal.returns-in-Content-clause-right
+returns-in-Content-clause-right c =
+    right_content c.in-Content.bytes.now (place_of c.walk.new.self) c.in-Content.ensures.1.some c.in-Content.ensures.0.right
+
+pub returns-in-Trailers-clause-right : goal.returns-in-Trailers-clause-right
+returns-in-Trailers-clause-right c = c.in-Trailers.ensures.1.right

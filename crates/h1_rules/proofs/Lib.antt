@@ -1,0 +1,6 @@
+pub mod Values
+pub mod Digits
+pub mod HopLemmas
+pub mod TargetLemmas
+pub mod Cookies
+pub mod Adding

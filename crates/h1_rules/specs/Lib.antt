@@ -1,0 +1,5 @@
+pub mod Values
+pub mod Framed
+pub mod Hopping
+pub mod Targeted
+pub mod Own
