@@ -14,7 +14,7 @@ use Rattle.bh_listing.specs.Shown.{spelled_by, spelled_in, HasNoFeed, Shown}
 use Rattle.bh_listing.proofs.Outputs.{plain_bytes, plain_shows}
 use Rattle.bh_listing.proofs.Owing.{lines_at_start}
 
-spelled_is : (line : Line) → spelled_by (text_of line) ≡ content_of line
+pub spelled_is : (line : Line) → spelled_by (text_of line) ≡ content_of line
 spelled_is a_request = refl
 spelled_is a_response = refl
 spelled_is (method m) = refl
@@ -46,15 +46,15 @@ either_at (x ∷ xs) y ys (f ∷ front) back e =
     on h (inl s) = inl (s.0, λ i. h i ∷ s.1 i)
     on h (inr s) = inr (s.0, (λ i. (sym h) i ∷ s.1 i), s.2)
 
-no_feed_in : (x rest : List ℕ) → HasNoFeed (x ++ (10 ∷ rest)) → ⊥
+pub no_feed_in : (x rest : List ℕ) → HasNoFeed (x ++ (10 ∷ rest)) → ⊥
 no_feed_in [] rest h = h.0 refl
 no_feed_in (b ∷ x) rest h = no_feed_in x rest h.1
 
 -- what is shown behind a whole line
-abbrev Behind : List ℕ → List ℕ → ℕ → Type 0
+abbrev pub Behind : List ℕ → List ℕ → ℕ → Type 0
 Behind line rest n = (k : ℕ) × Shown rest k × (n ≡ spelled_by line + k)
 
-take_line : (line rest : List ℕ) (n : ℕ) → HasNoFeed line → Shown (line ++ (10 ∷ rest)) n → Behind line rest n
+pub take_line : (line rest : List ℕ) (n : ℕ) → HasNoFeed line → Shown (line ++ (10 ∷ rest)) n → Behind line rest n
 take_line line rest n clean s = by_lines s.lines s.split s.each s.counts
   where
     by_lines : (lines : List (List ℕ)) → line ++ (10 ∷ rest) ≡ flat_map (λ l. l ++ (10 ∷ [])) lines ++ s.rest → AllByRecursion HasNoFeed lines → n ≡ spelled_in lines → Behind line rest n
