@@ -13,8 +13,8 @@ use bh_model::{Fields, Interims, Kind, Message};
 /// The bytes of a chunk of canonical content, but for a shorter last one.
 const CHUNK: usize = 8192;
 
-/// Sends content in chunks.
-fn send_content<S: Sink>(
+/// Sends content in chunks of 8,192 bytes and a shorter last one, and nothing where there is none.
+pub fn send_content<S: Sink>(
     encoder: StreamEncoder<AtContent>,
     sink: &mut S,
     content: &[u8],

@@ -74,7 +74,7 @@ need_on v r piece h handed =
     (moved_on v r piece (length piece) [] h handed v.kind v.lines v.content refl (omega (arith, r.lines)) (omega (arith, r.content)))
 
 -- what is shown of something that is there
-shown_of : {A : Type 0} (P : A → Type 0) (o : Option A) (a : A) → o ≡ Some a → IfSome o P → P a
+pub shown_of : {A : Type 0} (P : A → Type 0) (o : Option A) (a : A) → o ≡ Some a → IfSome o P → P a
 shown_of P (Some b) a e h = let same : b ≡ a = cc in subst P same h
 shown_of P None a e h = absurd (cc)
 

@@ -39,7 +39,7 @@ use Rattle.bh_stream.proofs.Moving.{items-append, items-map}
 -- ---- bytes of a part
 
 -- the part isn't that of content
-abbrev IsPlain : Part → Type 0
+abbrev pub IsPlain : Part → Type 0
 IsPlain part = nat_eq (number_of part) 18 ≡ false
 
 off : (c : Bool) → c ≡ false → ◌≡◌ {A = ℕ} (if c then 1 else 0) 0
@@ -58,7 +58,7 @@ all (b ∷ x) = omega (arith, all x)
 behind : (part : Part) → IsPlain part → (x : List ℕ) (t : Text) → content_in (mark part x ++ t) ≡ content_in t
 behind part e x t = omega (arith, content-append (mark part x) t, none part e x)
 
-number_none : (part : Part) → IsPlain part → (n : ℕ) (t : Text) → IsNumber part n t → content_in t ≡ 0
+pub number_none : (part : Part) → IsPlain part → (n : ℕ) (t : Text) → IsNumber part n t → content_in t ≡ 0
 number_none part e n t h = ap content_in h.spelled ∙ none part e (vi n h.width)
 
 string_none : (long part : Part) → IsPlain long → IsPlain part → (x : List ℕ) (t : Text) → IsString long part x t → content_in t ≡ 0
@@ -71,7 +71,7 @@ string_none long part e f x t h = omega (
   none part f x,
 )
 
-each_none : {A : Type 0} (R : A → Text → Type 0) → ((a : A) (t : Text) → R a t → content_in t ≡ 0) → (xs : List A) (t : Text)
+pub each_none : {A : Type 0} (R : A → Text → Type 0) → ((a : A) (t : Text) → R a t → content_in t ≡ 0) → (xs : List A) (t : Text)
     → AreEach R xs t → content_in t ≡ 0
 each_none R one [] t h = ap content_in h
 each_none R one (x ∷ xs) t h = omega (arith, ap content_in h.4, content-append h.0 h.1, one x h.0 h.2, each_none R one xs h.1 h.3)
@@ -89,7 +89,7 @@ line_none f t h =
       string_none parts.ValueLength parts.Value refl refl f.value s.1 s.3,
     )
 
-section_none : (L : Bounds) (form : Form) (fs : List Field) (t : Text) → IsSection L form fs t → content_in t ≡ 0
+pub section_none : (L : Bounds) (form : Form) (fs : List Field) (t : Text) → IsSection L form fs t → content_in t ≡ 0
 section_none L Known fs t h =
     let s = h.2 in
     omega (
@@ -229,7 +229,7 @@ control_none K (control_phases.Bytes place left) r c t h = left_none K place c (
 control_none K control_phases.Whole r c t h = ap content_in h.2
 control_none K control_phases.Refused r c t h = absurd h
 
-request_none : (L : Bounds) (c : Control) (t : Text) → IsRequest L c t → content_in t ≡ 0
+pub request_none : (L : Bounds) (c : Control) (t : Text) → IsRequest L c t → content_in t ≡ 0
 request_none L c t h =
     let a = h.text in
     let b = a.3 in
@@ -248,7 +248,7 @@ request_none L c t h =
       string_none parts.PathLength parts.Path refl refl c.path d.1 d.3,
     )
 
-interim_none : (L : Bounds) (form : Form) (i : Interim) (t : Text) → IsInterimText L form i t → content_in t ≡ 0
+pub interim_none : (L : Bounds) (form : Form) (i : Interim) (t : Text) → IsInterimText L form i t → content_in t ≡ 0
 interim_none L form i t h = omega (
   arith,
   ap content_in h.4,

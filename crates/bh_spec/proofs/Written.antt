@@ -37,7 +37,7 @@ has_then R S x y h k =
 has_run : (part : Part) (x : List ℕ) → Has (IsRun part x) x
 has_run part x = (mark part x, refl, unmark part x)
 
-has_int : (part : Part) (n : ℕ) → n ≤ greatest → Has (IsNumber part n) (int n)
+pub has_int : (part : Part) (n : ℕ) → n ≤ greatest → Has (IsNumber part n) (int n)
 has_int part n h = (mark part (int n), record { width = least_width n; fits = least_fits n h; spelled = refl }, unmark part (int n))
 
 has_string : (long part : Part) (x : List ℕ) → length x ≤ greatest → Has (IsString long part x) (string x)
@@ -124,13 +124,13 @@ has_body Indeterminate x h =
 
 -- ---- starts and messages
 
-abbrev IsLower : Field → Type 0
+abbrev pub IsLower : Field → Type 0
 IsLower f = lower f.name ≡ f.name
 
-trailers_lower : (fs : List Field) → All IsRegularField fs → All IsLower fs
+pub trailers_lower : (fs : List Field) → All IsRegularField fs → All IsLower fs
 trailers_lower fs h = All-weaker IsRegularField IsLower (λ f p. p.lower_case) fs h
 
-headers_lower : (fs : List Field) → AreHeaders fs → All IsLower fs
+pub headers_lower : (fs : List Field) → AreHeaders fs → All IsLower fs
 headers_lower fs h =
     All-same IsLower fs (h.0 ++ h.1) h.2
     (All-append IsLower h.0 h.1 (All-weaker IsPseudoField IsLower (λ f p. p.lower_case) h.0 h.3) (trailers_lower h.1 h.4))
@@ -138,10 +138,10 @@ headers_lower fs h =
 all_written : (fs : List Field) → All IsLower fs → FieldsFit integers fs → All IsWritten fs
 all_written fs p q k d h = record { lower_case = p k d h; name = q.names k d h; value = q.values k d h }
 
-abbrev Lines : Bounds → List Field → Type 0
+abbrev pub Lines : Bounds → List Field → Type 0
 Lines L fs = All IsLower fs × (FieldsFit integers fs × FieldsFit L fs)
 
-has_written_section : (L : Bounds) (form : Form) (fs : List Field) → Lines L fs → Has (IsSection L form fs) (section form fs)
+pub has_written_section : (L : Bounds) (form : Form) (fs : List Field) → Lines L fs → Has (IsSection L form fs) (section form fs)
 has_written_section L form fs h = has_section L form fs (all_written fs h.0 h.1.0) h.1.0.total h.1.1
 
 has_request : (L : Bounds) (c : Control) → lower c.scheme ≡ c.scheme → ControlFits integers c → ControlFits L c
@@ -183,7 +183,7 @@ interims_ready L is p q r k d h =
     let i = p k d h in
     (omega (arith, i.high), (headers_lower _ i.fields, (q k d h, r k d h)))
 
-has_start : (L : Bounds) (form : Form) (a : Start) → IsStart a → StartFits integers a → StartFits L a → Has (IsStartText L form a) (start form a)
+pub has_start : (L : Bounds) (form : Form) (a : Start) → IsStart a → StartFits integers a → StartFits L a → Has (IsStartText L form a) (start form a)
 has_start L form (request c) v small fits = has_request L c v.scheme.lower_case small fits
 has_start L form (response is s) v small fits =
     let all = has_then (AreEach (IsInterimText L form) is) (IsNumber parts.Status s) (flat_map (interim form) is) (int s)
@@ -191,7 +191,7 @@ has_start L form (response is s) v small fits =
     (has_int parts.Status s (omega (arith, v.high))) in
     (all.0, (fits.0, all.1), all.2)
 
-small_framing : (k : Kind) (form : Form) → framing k form ≤ greatest
+pub small_framing : (k : Kind) (form : Form) → framing k form ≤ greatest
 small_framing Request Known = omega arith
 small_framing Request Indeterminate = omega arith
 small_framing Response Known = omega arith

@@ -1,10 +1,10 @@
 -- Outputs, their bytes and their content.
-use Rattle.std.proofs.Common.{◌≡◌, ◌+◌, ℕ, if◌then◌else◌, nat_eq, List, [], ◌∷◌, ◌++◌, refl, ◌∙◌, ap, arith, append_assoc}
+use Rattle.std.proofs.Common.{◌≡◌, ◌+◌, ℕ, if◌then◌else◌, nat_eq, List, [], ◌∷◌, ◌++◌, length, refl, ◌∙◌, ap, arith, append_assoc}
 use Rattle.std.proofs.lemmas.List.{map-append}
 use Rattle.bh_spec.specs.declared.Part.{Part}
 use Rattle.bh_spec.specs.Parts.{number_of}
 use Rattle.bh_spec.specs.Texts.{Text, bytes_of, content_in}
-use Rattle.bh_stream.specs.Outputs.{Output, written, shown_in, weighed}
+use Rattle.bh_stream.specs.Outputs.{Output, written, shown_in, weighed, plain, shown}
 use Rattle.bh_stream.specs.Logs.{Begins}
 
 pub written-append : (x y : Output) → written (x ++ y) ≡ written x ++ written y
@@ -54,3 +54,21 @@ weighed_front (c ∷ t) (b ∷ front) more e =
   where
     in_front : (c : Part × ℕ) (t u : Text) → t ≡ u → c ∷ t ≡ c ∷ u
     in_front c t u e = ap (λ (l : Text). c ∷ l) e
+
+-- ---- bytes that are no content, and bytes that are
+
+pub written_plain : (x : List ℕ) → written (plain x) ≡ x
+written_plain [] = refl
+written_plain (b ∷ x) = ap (λ (l : List ℕ). b ∷ l) (written_plain x)
+
+pub written_shown : (x : List ℕ) → written (shown x) ≡ x
+written_shown [] = refl
+written_shown (b ∷ x) = ap (λ (l : List ℕ). b ∷ l) (written_shown x)
+
+pub shown_plain : (x : List ℕ) → shown_in (plain x) ≡ 0
+shown_plain [] = refl
+shown_plain (b ∷ x) = omega (arith, shown_plain x)
+
+pub shown_shown : (x : List ℕ) → shown_in (shown x) ≡ length x
+shown_shown [] = refl
+shown_shown (b ∷ x) = omega (arith, shown_shown x)

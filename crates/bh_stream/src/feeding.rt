@@ -28,8 +28,8 @@ pub fn feed<S: Sink, D: Decode, J: Job<S, D>>(
     requires few { J.held job.old ≤ J.most }
     requires ready { D.ready decoder.old }
     requires fits { (q : List Item) (t : Text) → D.rest decoder.old q t → J.takes job.old q }
-    ensures feeds { Feeds D.rest D.moves D.refuses J.writes J.most S.write_step decoder.old (J.owed job.old) (J.held job.old) piece.now sink.old
-        result decoder.new (J.owed job.new) (J.held job.new) (J.takes job.new) sink.new }
+    ensures feeds { Feeds D.rest D.moves D.refuses J.writes J.most S.write_step decoder.old (J.owed job.old) (J.held job.old) piece.now
+        sink.old result decoder.new (J.owed job.new) (J.held job.new) (J.takes job.new) sink.new }
     ensures limits { D.limits decoder.new ≡ D.limits decoder.old }
 {
     let mut rest = piece;

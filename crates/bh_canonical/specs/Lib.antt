@@ -1,0 +1,4 @@
+pub mod Stages
+pub mod Owed
+pub mod Writers
+pub mod Calls
