@@ -7,14 +7,13 @@ use Rattle.bh_spec.proofs.ListingTexts.{until}
 use Rattle.bh_spec.proofs.Listings.{message_fine, texts_avoid}
 use Rattle.bh_stream.specs.Outputs.{Output, plain, written, shown_in}
 use Rattle.bh_stream.specs.Formats.{ShowsContent}
-use Rattle.bh_stream.proofs.Outputs.{written-append, shown-append}
+use Rattle.bh_stream.proofs.Outputs.{written-append, written_plain, shown-append, shown_plain}
 use Rattle.bh_text.proofs.Digits.{two_each}
 use Rattle.bh_listing.specs.Owed.{at_start, content_of, lines_owed, output, owed}
 use Rattle.bh_listing.specs.Shown.{spelled_by, spelled_in, HasNoFeed, Shown}
-use Rattle.bh_listing.proofs.Outputs.{plain_bytes, plain_shows}
 use Rattle.bh_listing.proofs.Owing.{lines_at_start}
 
-spelled_is : (line : Line) → spelled_by (text_of line) ≡ content_of line
+pub spelled_is : (line : Line) → spelled_by (text_of line) ≡ content_of line
 spelled_is a_request = refl
 spelled_is a_response = refl
 spelled_is (method m) = refl
@@ -46,15 +45,15 @@ either_at (x ∷ xs) y ys (f ∷ front) back e =
     on h (inl s) = inl (s.0, λ i. h i ∷ s.1 i)
     on h (inr s) = inr (s.0, (λ i. (sym h) i ∷ s.1 i), s.2)
 
-no_feed_in : (x rest : List ℕ) → HasNoFeed (x ++ (10 ∷ rest)) → ⊥
+pub no_feed_in : (x rest : List ℕ) → HasNoFeed (x ++ (10 ∷ rest)) → ⊥
 no_feed_in [] rest h = h.0 refl
 no_feed_in (b ∷ x) rest h = no_feed_in x rest h.1
 
 -- what is shown behind a whole line
-abbrev Behind : List ℕ → List ℕ → ℕ → Type 0
+abbrev pub Behind : List ℕ → List ℕ → ℕ → Type 0
 Behind line rest n = (k : ℕ) × Shown rest k × (n ≡ spelled_by line + k)
 
-take_line : (line rest : List ℕ) (n : ℕ) → HasNoFeed line → Shown (line ++ (10 ∷ rest)) n → Behind line rest n
+pub take_line : (line rest : List ℕ) (n : ℕ) → HasNoFeed line → Shown (line ++ (10 ∷ rest)) n → Behind line rest n
 take_line line rest n clean s = by_lines s.lines s.split s.each s.counts
   where
     by_lines : (lines : List (List ℕ)) → line ++ (10 ∷ rest) ≡ flat_map (λ l. l ++ (10 ∷ [])) lines ++ s.rest → AllByRecursion HasNoFeed lines → n ≡ spelled_in lines → Behind line rest n
@@ -75,13 +74,13 @@ in_front (line ∷ lines) clean front more e n s = by_case (either_at (plain (te
     (sym (append_assoc (plain (text_of line)) ((content_of line, 10) ∷ []) (output lines)) ∙ e)) (in_front lines clean.1)
   where
     by_case : ((rest : Output) × (plain (text_of line) ≡ front ++ rest)) ⊎ ((mid : Output) × (front ≡ plain (text_of line) ++ ((content_of line, 10) ∷ mid)) × (output lines ≡ mid ++ more)) → ((front more : Output) → output lines ≡ front ++ more → (n : ℕ) → Shown (written front) n → shown_in front ≤ n) → shown_in front ≤ n
-    by_case (inl h) before = omega (arith, sym (ap shown_in h.1), plain_shows (text_of line), shown-append front h.0)
+    by_case (inl h) before = omega (arith, sym (ap shown_in h.1), shown_plain (text_of line), shown-append front h.0)
     by_case (inr h) before =
         let bytes : written front ≡ text_of line ++ (10 ∷ written h.0) =
-        ap written h.1 ∙ written-append (plain (text_of line)) ((content_of line, 10) ∷ h.0) ∙ ap (λ (l : List ℕ). l ++ (10 ∷ written h.0)) (plain_bytes (text_of line)) in
+        ap written h.1 ∙ written-append (plain (text_of line)) ((content_of line, 10) ∷ h.0) ∙ ap (λ (l : List ℕ). l ++ (10 ∷ written h.0)) (written_plain (text_of line)) in
         let next = take_line (text_of line) (written h.0) n clean.0 (subst (λ (l : List ℕ). Shown l n) bytes s) in
         let inside = before h.0 more h.2 next.0 next.1 in
-        omega (arith, inside, next.2, spelled_is line, ap shown_in h.1, shown-append (plain (text_of line)) ((content_of line, 10) ∷ h.0), plain_shows (text_of line))
+        omega (arith, inside, next.2, spelled_is line, ap shown_in h.1, shown-append (plain (text_of line)) ((content_of line, 10) ∷ h.0), shown_plain (text_of line))
 
 pub shows_content : (L : Bounds) → ShowsContent L Shown (owed at_start)
 shows_content L q t h front more e n s =

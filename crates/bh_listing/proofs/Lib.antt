@@ -3,3 +3,4 @@ pub mod Owing
 pub mod Due
 pub mod Fronts
 pub mod Called
+pub mod Shows

@@ -6,23 +6,15 @@ use Rattle.bh_spec.specs.Messages.{Field}
 use Rattle.bh_spec.specs.Canonical.{cut_within}
 use Rattle.bh_spec.specs.Listing.{Line, field, content, trailer, content_lines, joined, text_of}
 use Rattle.bh_stream.specs.Outputs.{plain, written, shown_in}
-use Rattle.bh_stream.proofs.Outputs.{written-append, shown-append}
+use Rattle.bh_stream.proofs.Outputs.{written-append, written_plain, shown-append, shown_plain}
 use Rattle.bh_text.specs.Showing.{filled, unfilled}
 use Rattle.bh_listing.specs.Owed.{content_of, line_output, output}
 
 pub output-append : (a b : List Line) → output (a ++ b) ≡ output a ++ output b
 output-append a b = flat_map-append line_output a b
 
-pub plain_bytes : (bytes : List ℕ) → written (plain bytes) ≡ bytes
-plain_bytes [] = refl
-plain_bytes (x ∷ bytes) = ap (λ (l : List ℕ). x ∷ l) (plain_bytes bytes)
-
-pub plain_shows : (bytes : List ℕ) → shown_in (plain bytes) ≡ 0
-plain_shows [] = refl
-plain_shows (x ∷ bytes) = omega (arith, plain_shows bytes)
-
 pub line_bytes : (line : Line) → written (line_output line) ≡ text_of line ++ (10 ∷ [])
-line_bytes line = written-append (plain (text_of line)) ((content_of line, 10) ∷ []) ∙ ap (λ (l : List ℕ). l ++ (10 ∷ [])) (plain_bytes (text_of line))
+line_bytes line = written-append (plain (text_of line)) ((content_of line, 10) ∷ []) ∙ ap (λ (l : List ℕ). l ++ (10 ∷ [])) (written_plain (text_of line))
 
 -- the bytes of lines
 pub output_bytes : (lines : List Line) → written (output lines) ≡ joined lines
@@ -36,7 +28,7 @@ content_in [] = 0
 content_in (line ∷ lines) = content_of line + content_in lines
 
 pub line_shows : (line : Line) → shown_in (line_output line) ≡ content_of line
-line_shows line = omega (arith, shown-append (plain (text_of line)) ((content_of line, 10) ∷ []), plain_shows (text_of line))
+line_shows line = omega (arith, shown-append (plain (text_of line)) ((content_of line, 10) ∷ []), shown_plain (text_of line))
 
 pub output_shows : (lines : List Line) → shown_in (output lines) ≡ content_in lines
 output_shows [] = refl

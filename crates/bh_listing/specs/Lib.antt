@@ -1,3 +1,4 @@
 pub mod Owed
 pub mod Shown
 pub mod Listed
+pub mod Laws

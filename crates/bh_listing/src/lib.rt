@@ -2,10 +2,12 @@
 #![tactic(auto)]
 
 mod calling;
+mod laws;
 mod sending;
 #[cfg(test)]
 mod tests;
 mod writer;
 
 pub use calling::listed;
+pub use laws::{a_listing_shows_all, one_number_is_shown};
 pub use writer::ListingWriter;

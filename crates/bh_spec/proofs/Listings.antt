@@ -204,7 +204,7 @@ same_all (l ∷ ls) (k ∷ ks) a b e =
     let tail : map text_of ls ≡ map text_of ks = cc in
     ap₂ (λ x xs. x ∷ xs) (same_line l k a.0.0 b.0.0 head) (same_all ls ks a.1 b.1 tail)
 
-by_texts : (ls : List Line) → flat_map (λ l. text_of l ++ (10 ∷ [])) ls ≡ flat_map (λ x. x ++ (10 ∷ [])) (map text_of ls)
+pub by_texts : (ls : List Line) → flat_map (λ l. text_of l ++ (10 ∷ [])) ls ≡ flat_map (λ x. x ++ (10 ∷ [])) (map text_of ls)
 by_texts [] = refl
 by_texts (l ∷ ls) = ap (λ x. (text_of l ++ (10 ∷ [])) ++ x) (by_texts ls)
 
