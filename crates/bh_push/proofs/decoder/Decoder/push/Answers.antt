@@ -31,7 +31,7 @@ returns-then-within-piece-clause-hands c =
     } in
     let n = d.taken + length within in
     subst (λ (v : Held). Refuses v.decoder.refusal v.decoder piece (TooLong n) (view w n (Some (TooLong n))) × Keeps v (held w n (Some (TooLong n)))) c.self.view_is
-    (refuses_more d.course w d.taken most d.refusal piece within g c.if-within-piece.true c.in-Need.ensures)
+    (refuses_more d.course w d.taken most d.refusal piece within g (omega (arith, c.if-within-piece.true)) c.in-Need.ensures)
 
 pub returns-else-within-piece-clause-hands : goal.returns-else-within-piece-clause-hands
 returns-else-within-piece-clause-hands c =
