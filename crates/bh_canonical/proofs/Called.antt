@@ -13,7 +13,7 @@ use Rattle.bh_stream.specs.Formats.{Knows}
 use Rattle.bh_stream.specs.declared.streaming.End.{End}
 use Rattle.bh_stream.proofs.Calls.{stream_call}
 use Rattle.bh_stream.proofs.Formats.{keeps_up}
-use Rattle.bh_reading.specs.Readings.{Counted, rest, room, Moved, IsStart, refuses, tells, misses}
+use Rattle.bh_reading.specs.Readings.{Counted, rest, room, Moved, IsAtStart, refuses, tells, misses}
 use Rattle.bh_reading.specs.ReadingLaws.{reading_laws}
 use Rattle.bh_reading.proofs.Counts.{few_counts}
 use Rattle.bh_reading.proofs.Judging.{reading_judges}
@@ -22,7 +22,7 @@ use Rattle.bh_canonical.specs.Owed.{message_owed}
 use Rattle.bh_canonical.specs.Calls.{CanonicalCall}
 use Rattle.bh_canonical.proofs.Owes.{owes_canon, shows_content}
 
-pub called : (L : Bounds) → AreLimits L → (v : Counted) → IsStart L v → {S : Type 0} {read write : S → Step → S → Type 0} {s t : S} (r : End Summary Refusal)
+pub called : (L : Bounds) → AreLimits L → (v : Counted) → IsAtStart L v → {S : Type 0} {read write : S → Step → S → Type 0} {s t : S} (r : End Summary Refusal)
     → Streams rest room Moved refuses tells misses true 8191 read write v (message_owed false) s r t → CanonicalCall L read write s r t
 called L limits v start r h =
     let knows : Knows L canon rest room v (message_owed false) = knows_at_start L limits v start canon (message_owed false) (λ m o z t k. owes_canon L m o z t k) in

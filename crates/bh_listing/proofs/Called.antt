@@ -10,7 +10,7 @@ use Rattle.bh_stream.specs.Runs.{Streams}
 use Rattle.bh_stream.specs.declared.streaming.End.{End}
 use Rattle.bh_stream.proofs.Calls.{stream_call}
 use Rattle.bh_stream.proofs.Formats.{keeps_up}
-use Rattle.bh_reading.specs.Readings.{Counted, rest, room, Moved, IsStart, refuses, tells, misses}
+use Rattle.bh_reading.specs.Readings.{Counted, rest, room, Moved, IsAtStart, refuses, tells, misses}
 use Rattle.bh_reading.specs.ReadingLaws.{reading_laws}
 use Rattle.bh_reading.proofs.Counts.{few_counts}
 use Rattle.bh_reading.proofs.Judging.{reading_judges}
@@ -21,7 +21,7 @@ use Rattle.bh_listing.specs.Listed.{ListedCall}
 use Rattle.bh_listing.proofs.Owing.{owes_show}
 use Rattle.bh_listing.proofs.Fronts.{shows_content}
 
-pub was_listed : (L : Bounds) → AreLimits L → (v : Counted) → IsStart L v → {S : Type 0} {read write : S → Step → S → Type 0} {s t : S} (r : End Summary Refusal)
+pub was_listed : (L : Bounds) → AreLimits L → (v : Counted) → IsAtStart L v → {S : Type 0} {read write : S → Step → S → Type 0} {s t : S} (r : End Summary Refusal)
     → Streams rest room Moved refuses tells misses true 31 read write v (owed at_start) s r t → ListedCall L read write s r t
 was_listed L limits v start r h =
     let knows = knows_at_start L limits v start show (owed at_start) (owes_show L) in

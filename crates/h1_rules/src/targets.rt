@@ -10,7 +10,7 @@ ghost use Rattle.h1_rules.specs.Targeted.{IsRequest, IsTargetAnswer, IsControlAn
 use crate::lines::{Only, only_value};
 use bh_base::NoMemory;
 use bh_model::{Bytes, Control, Fields};
-use h1_head::{Head1, Start};
+use h1_head::{Head1, StartLine};
 use h1_spec::Scheme1;
 use std::alloc::Global;
 
@@ -43,12 +43,12 @@ pub fn target_of(alloc: Global, head: &Head1, scheme: Scheme1) -> Result<Control
     ensures { IsTargetAnswer scheme (head_of head.now) result }
 {
     match &head.start {
-        Start::Request { method, target } => {
+        StartLine::Request { method, target } => {
             let parts = (method.as_slice(), target.as_slice());
             control_of(alloc, scheme, parts.0, parts.1, &head.fields)
         }
         // No head of a request.
-        Start::Response { .. } => Err(TargetWhy::Target),
+        StartLine::Response { .. } => Err(TargetWhy::Target),
     }
 }
 
