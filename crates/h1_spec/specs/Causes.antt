@@ -29,7 +29,8 @@ pub record EndsTooSoon (Ends : ℕ → Type 0) (limit : Option ℕ) (bytes : Lis
   pub none : (many : ℕ) → Ends many → ⊥
 
 -- The end of a section by the kind, within the limit, and what its bytes and those behind it say.
-pub record IsEndFound (Ends : ℕ → Type 0) (limit : Option ℕ) (bytes : List ℕ) (found : List ℕ → List ℕ → Causes) (cause : H1Why) : Type 0 where
+pub record IsEndFound (Ends : ℕ → Type 0) (limit : Option ℕ) (bytes : List ℕ) (found : List ℕ → List ℕ → Causes) (cause : H1Why)
+    : Type 0 where
   pub many : ℕ
   pub ends : Ends many
   pub within : IsWithin limit many
