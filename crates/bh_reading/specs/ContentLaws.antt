@@ -402,7 +402,8 @@ content_of_rest L (in_framing begun) q t h = omega (
   behind parts.Framing refl begun t,
   message_count L q (mark parts.Framing begun ++ t) h,
 )
-content_of_rest L (in_control form read) q t h = request_count L form (control_grammar.Rest L read) (λ c u k. control_none L read.phase read c
+content_of_rest L (in_control form read) q t h =
+    request_count L form (control_grammar.Rest L read) (λ c u k. control_none L read.phase read c
     u k) q t h
 content_of_rest L (in_status form before begun) q t h = omega (
   arith,
