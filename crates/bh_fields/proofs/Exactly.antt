@@ -1,5 +1,6 @@
 -- What a reader of sections answers for a piece, byte for byte.
-use Rattle.std.proofs.Common.{◌≡◌, ◌<◌, ◌≤◌, ◌+◌, arith, ℕ, List, [], ◌∷◌, length, take, get_or, subst, ◌∙◌}
+use Rattle.std.proofs.Common.{◌≡◌, ◌<◌, ◌≤◌, ◌+◌, ◌-◌, arith, ℕ, List, [], ◌∷◌, ◌++◌, length, take, drop, get_or, sym, ap, subst, ◌∙◌}
+use Rattle.std.proofs.Math.Seq.{take-add}
 use Rattle.bh_spec.specs.declared.Part.{Part}
 use Rattle.bh_spec.specs.declared.PieceStep.{PieceStep}
 use Rattle.bh_spec.specs.declared.PieceStep.TheVariants.{Need, Whole, Dead, Limit}
@@ -9,7 +10,7 @@ use Rattle.bh_spec.specs.Bounds.{Bounds, no_bounds}
 use Rattle.bh_spec.specs.Pieces.{SomeOf, IsNext}
 use Rattle.bh_spec.specs.Readings.{reading, Leads as ReaderLeads, Takes as ReaderTakes}
 use Rattle.bh_spec.proofs.Pieces.{IsOnce}
-use Rattle.bh_spec.proofs.Residuals.{residual_here}
+use Rattle.bh_spec.proofs.Residuals.{residual_here, residual_on, residual_bytes}
 use Rattle.bh_spec.proofs.Readings.{Answers, answers, one_more, whole_piece, need_shows, whole_shows, dead_shows, limit_shows}
 use Rattle.bh_fields.specs.Middle.{SectionView, Rest}
 use Rattle.bh_fields.specs.Bytewise.{IsLeft}
@@ -34,6 +35,15 @@ leads_here v L = residual_here (Rest L v)
 
 pub leads_on : (v w u : SectionView) (piece : List ℕ) (o : ℕ) → o < length piece → Leads v (take o piece) w → Leads w (get_or piece o 0 ∷ []) u → Leads v (take (o + 1) piece) u
 leads_on v w u piece o h a b L = one_more (Rest L v) (Rest L w) (Rest L u) piece o h (a L) (b L)
+
+-- with a byte more of the piece and what lies behind it
+pub leads_over : (v w x u : SectionView) (piece : List ℕ) (o taken : ℕ) → o < length piece → Leads v (take o piece) w → Leads w (get_or piece o 0 ∷ []) x
+    → o + 1 ≤ taken → IsOnTheWay x (take (taken - (o + 1)) (drop (o + 1) piece)) u → Leads v (take taken piece) u
+leads_over v w x u piece o taken h a b more c L =
+    residual_bytes (Rest L v) (take (o + 1) piece ++ take (taken - (o + 1)) (drop (o + 1) piece)) (take taken piece) (λ fields. fields) (Rest L u)
+    (sym (take-add (o + 1) (taken - (o + 1)) piece) ∙ ap (λ (k : ℕ). take k piece) (let e : o + 1 + (taken - (o + 1)) ≡ taken = omega arith in e))
+    (residual_on (Rest L v) (take (o + 1) piece) (λ fields. fields) (Rest L x) (take (taken - (o + 1)) (drop (o + 1) piece)) (λ fields. fields) (Rest L u)
+    (leads_on v w x piece o h a b L) (c.leads L))
 
 -- within the reader's limits and without
 both : (L : Bounds) (v w : SectionView) (bytes : List ℕ) → Leads v bytes w → ReaderLeads (Rest L v) (Rest no_bounds v) (Rest L w) (Rest no_bounds w) bytes

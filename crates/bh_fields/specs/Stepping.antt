@@ -1,5 +1,5 @@
 -- What a byte makes of a section that is being read.
-use Rattle.std.specs.Prelude.{ℕ, ◌≡◌, List}
+use Rattle.std.specs.Prelude.{ℕ, ◌≡◌, List, [], ◌∷◌}
 use Rattle.bh_spec.specs.Bounds.{Bounds, no_bounds}
 use Rattle.bh_spec.specs.Messages.{Field}
 use Rattle.bh_spec.specs.Texts.{Text}
@@ -29,3 +29,9 @@ IsStep judged.Limit now p byte phase q = IsSized q × IsSame p q × HasNone (Res
     × HasSome (RestOf now p) no_bounds (part_at now) byte
 IsStep judged.Dead now p byte phase q = IsSized q × IsSame p q × HasNone (RestOf now p) p.limits (part_at now) byte
     × HasNone (RestOf now p) no_bounds (part_at now) byte
+
+-- what bytes make of it, each of which is a step that goes on
+abbrev pub IsRun : Phase → Point → List ℕ → Phase → Point → Type 0
+IsRun now p [] phase q = (phase ≡ now) × (q ≡ p)
+IsRun now p (byte ∷ rest) phase q =
+    (middle : Phase × Point) × IsStep judged.More now p byte middle.0 middle.1 × IsRun middle.0 middle.1 rest phase q

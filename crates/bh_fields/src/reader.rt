@@ -1,5 +1,5 @@
 //! The reader of sections, over pieces of any length.
-ghost use Rattle.std.specs.Prelude.{◌≡◌, ◌↔◌, ℕ, IfOk, IsTrue, None, []};
+ghost use Rattle.std.specs.Prelude.{◌≡◌, ◌↔◌, ◌≤◌, ◌-◌, ℕ, IfOk, IsTrue, None, [], take, drop, length};
 ghost use Rattle.bh_spec.specs.declared.Part.{Part as part_type};
 ghost use Rattle.bh_spec.specs.Pieces.{IsNext, Ends, GoesOn, IsDead, IsLimit};
 ghost use Rattle.bh_spec.specs.Readings.{reading, whole, Shows};
@@ -7,7 +7,7 @@ ghost use Rattle.bh_fields.specs.Middle.{new_view, begun_view, first_of};
 ghost use Rattle.bh_fields.specs.Bytewise.{IsLeft};
 ghost use Rattle.bh_fields.specs.Middle.{Rest as rest_of};
 ghost use Rattle.bh_fields.specs.Views.{Takes};
-ghost use Rattle.bh_fields.specs.Readers.{IsWanted, IsUnlimited, IsBehind};
+ghost use Rattle.bh_fields.specs.Readers.{IsWanted, IsUnlimited, IsBehind, IsOnTheWay};
 
 use crate::walk::{Phase, Walk};
 use bh_base::NoMemory;
@@ -93,9 +93,13 @@ impl SectionReader {
         ensures behind { IsBehind self.old piece.now result self.new }
     {
         let mut part = self.first_part();
-        for (offset, &byte) in piece.iter().enumerate() {
-            match self.take(byte) {
-                Judged::More => part = self.next_part(),
+        let mut offset = 0;
+        while offset < piece.len() {
+            match self.take(piece[offset]) {
+                Judged::More => {
+                    offset = self.take_inner(piece, offset + 1);
+                    part = self.next_part();
+                }
                 Judged::Whole => return SectionStep::Whole { taken: offset + 1 },
                 Judged::Limit => return SectionStep::Limit { offset, part },
                 Judged::Dead => return SectionStep::Dead { offset, part },
@@ -132,6 +136,17 @@ impl SectionReader {
         }
     }
 
+    /// Takes what stands inside a value behind the first bytes of the piece, and says how many of the piece are then taken.
+    fn take_inner(&mut self, piece: &[u8], taken: usize) -> usize
+        requires reading { self.old.stage ≡ reading }
+        requires within { taken ≤ length piece.now }
+        ensures more { taken ≤ result }
+        ensures within { result ≤ length piece.now }
+        ensures on { IsOnTheWay self.old (take (result - taken) (drop taken piece.now)) self.new }
+    {
+        taken + self.walk.take_inner(behind(piece, taken))
+    }
+
     /// The part of the next byte.
     pub fn next_part(&self) -> Part
         requires { self.now.stage ≡ reading }
@@ -147,6 +162,14 @@ impl SectionReader {
     {
         &self.walk.fields
     }
+}
+
+/// The bytes behind the first `count`.
+fn behind(bytes: &[u8], count: usize) -> &[u8]
+    requires { count ≤ length bytes.now }
+    ensures { result.now ≡ drop count bytes.now }
+{
+    &bytes[count..]
 }
 
 /// Whether pseudo-fields may stand at the place.

@@ -1,12 +1,12 @@
 //! What a byte makes of a section.
-ghost use Rattle.std.specs.Prelude.{◌≡◌, ℕ, true, ◌<◌, ◌↔◌, List, ◌++◌, ◌∷◌, [], IsTrue};
+ghost use Rattle.std.specs.Prelude.{◌≡◌, ℕ, true, false, ◌<◌, ◌≤◌, ◌↔◌, List, ◌++◌, ◌∷◌, [], All, length, take, IsTrue};
 ghost use Rattle.std.specs.Char.{to_ascii_lowercase};
-ghost use Rattle.bh_spec.specs.Bytes.{lower};
+ghost use Rattle.bh_spec.specs.Bytes.{lower, is_value};
 ghost use Rattle.bh_spec.specs.Messages.{IsControlName};
 ghost use Rattle.bh_fields.specs.Names.{NameTakes, IsValueByte, flag_behind};
 ghost use Rattle.bh_fields.specs.Sets.{free_room};
 ghost use Rattle.bh_fields.specs.Points.{Point, point_of, RestOf, LinesAt, NamedAt, IsSized};
-ghost use Rattle.bh_fields.specs.Stepping.{Moves, IsStep};
+ghost use Rattle.bh_fields.specs.Stepping.{Moves, IsStep, IsRun};
 ghost use Rattle.bh_fields.specs.States.{IsFull, LengthState, NextState, LineState, NamedState, NameState, ValueLengthState, InValue, ValueState, ReadingAt};
 
 use crate::sets::{Read, judge, length_set, name_set, value_set};
@@ -73,6 +73,37 @@ fn is_value_byte(byte: u8, missing: u64, first: bool) -> bool
     bh_base::is_value(byte)
 }
 
+/// The value bytes at the front, fewer than are missing.
+fn value_front(bytes: &[u8], missing: u64) -> &[u8]
+    requires { 0 < missing }
+    ensures front { result.now ≡ take (length result.now) bytes.now }
+    ensures fewer { length result.now < missing }
+    ensures each { All (λ byte. IsTrue (is_value byte)) result.now }
+{
+    let inner = first_of(bytes, missing - 1);
+    match inner.iter().position(|&byte| !bh_base::is_value(byte)) {
+        Some(at) => front_of(inner, at),
+        None => inner,
+    }
+}
+
+/// The first bytes, at most so many.
+fn first_of(bytes: &[u8], most: u64) -> &[u8]
+    ensures front { result.now ≡ take (length result.now) bytes.now }
+    ensures most { length result.now ≤ most }
+{
+    front_of(bytes, most.min(bytes.len() as u64) as usize)
+}
+
+/// The first `count` bytes.
+fn front_of(bytes: &[u8], count: usize) -> &[u8]
+    requires { count ≤ length bytes.now }
+    ensures front { result.now ≡ take count bytes.now }
+    ensures long { length result.now ≡ count }
+{
+    &bytes[..count]
+}
+
 /// The room of the lines that holds without limits: that of a section's own length.
 fn room_without_limits(form: Form, room: u64) -> Option<u64>
     ensures { result ≡ free_room form room }
@@ -98,6 +129,40 @@ impl Walk {
             Phase::Value { missing, first } => self.take_value(byte, missing, first),
             Phase::Idle | Phase::Whole | Phase::Refused => Judged::Dead,
         }
+    }
+
+    /// Takes the bytes at the front that stand inside a value, neither its first nor its last, and says how many there are.
+    pub fn take_inner(&mut self, bytes: &[u8]) -> usize
+        requires sized { IsSized (point_of self.old) }
+        requires reading { ReadingAt self.old.phase (point_of self.old) }
+        ensures within { result ≤ length bytes.now }
+        ensures run { IsRun self.old.phase (point_of self.old) (take result bytes.now) self.new.phase (point_of self.new) }
+    {
+        match self.phase {
+            Phase::Value { missing, first } => {
+                if first {
+                    return 0;
+                }
+                self.take_values(bytes, missing)
+            }
+            _ => 0,
+        }
+    }
+
+    /// Takes the bytes at the front that stand inside a value of which so many bytes are missing.
+    fn take_values(&mut self, bytes: &[u8], missing: u64) -> usize
+        requires sized { IsSized (point_of self.old) }
+        requires state { ValueState (point_of self.old) missing false }
+        ensures within { result ≤ length bytes.now }
+        ensures run { IsRun (Phase.Value missing false) (point_of self.old) (take result bytes.now) self.new.phase (point_of self.new) }
+    {
+        let inner = value_front(bytes, missing);
+        self.fields.put_values(inner);
+        self.phase = Phase::Value {
+            missing: missing - inner.len() as u64,
+            first: false,
+        };
+        inner.len()
     }
 
     /// Takes a byte of the section's length.
