@@ -5,7 +5,7 @@
 //! with which no allowed number begins is refused at once, and not at the integer's end.
 #![tactic(auto)]
 
-ghost use Rattle.std.specs.Prelude.{◌≡◌, ℕ, ◌+◌, ◌-◌, ◌*◌, ◌^◌, ◌<◌, ◌≤◌, ◌↔◌, List, [], ◌∷◌, ◌++◌, length, take, drop, IsTrue};
+ghost use Rattle.std.specs.Prelude.{◌≡◌, ℕ, ◌+◌, ◌-◌, ◌*◌, ◌^◌, ◌<◌, ◌≤◌, ◌↔◌, List, [], ◌∷◌, ◌++◌, length, take, drop, IsTrue, IfSome};
 ghost use Rattle.bh_spec.specs.Integers.{vi, limit_of, byte_count, least_width, SomeBegins};
 ghost use Rattle.bh_spec.specs.Intervals.{width_of, Left, IsAlive};
 ghost use Rattle.bh_spec.specs.Canonical.{greatest};
@@ -219,6 +219,22 @@ impl Partial {
         ensures { IsTrue result ↔ SomeBegins set.now (self.now ++ byte ∷ []) }
     {
         self.with(byte).is_alive(set)
+    }
+
+    /// The number that the byte is, where it is one in a byte and allowed.
+    pub fn one(&self, byte: u8, set: &Allowed) -> Option<u64>
+        ensures whole { IfSome result (λ n. IsWhole set.now (self.now ++ byte ∷ []) n Width.One) }
+        ensures first { IfSome result (λ n. self.now ≡ []) }
+    {
+        if self.begun.is_some() || byte >= 64 {
+            return None;
+        }
+        let number = u64::from(byte);
+        if allows(set, 1, number, number) {
+            Some(number)
+        } else {
+            None
+        }
     }
 
     /// Takes one byte more, and says what the bytes are with it. After `Value` and `Dead` there is none again, so that
