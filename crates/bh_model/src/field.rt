@@ -2,7 +2,7 @@
 ghost use Rattle.std.specs.Prelude.{◌≡◌, ◌≤◌, ◌<◌, ◌↔◌, ◌⊎◌, ◌+◌, ◌*◌, ◌/◌, ◌^◌, ◌++◌, ◌∷◌, [], ℕ, Some, None, IfOk, IsTrue, IsSome, IsSomeAnd, IsNone, IfSome, option_map, option_to_list, length, take, slice_get, slice_range, vec_len, vec_capacity};
 ghost use Rattle.bh_spec.specs.Bytes.{lower};
 ghost use Rattle.bh_spec.specs.Messages.{IsToken, IsPseudo};
-ghost use Rattle.bh_model.specs.Lines.{lines_room, making_room, making_count, name_grown, value_grown, value_grown_by, end_of, begun_count};
+ghost use Rattle.bh_model.specs.Lines.{lines_room, making_room, making_count, name_grown, name_grown_by, value_grown, value_grown_by, end_of, begun_count};
 ghost use Rattle.bh_model.specs.Rules.{IsFirstBroken, line_rules, AreLines};
 
 use crate::check;
@@ -148,6 +148,19 @@ impl Fields {
         ensures free { self.new.free ≡ self.old.free }
     {
         self.bytes.push_reserved(bh_base::lower(byte));
+        self.making = Some(self.bytes.len());
+    }
+
+    /// Adds bytes to the name of the line that is being made.
+    pub fn put_names(&mut self, bytes: &[u8])
+        requires making { IsSomeAnd self.old.making (λ line. line.value ≡ []) }
+        requires spare { length bytes.now ≤ self.old.spare }
+        ensures lines { self.new.lines ≡ self.old.lines }
+        ensures making { self.new.making ≡ option_map (name_grown_by bytes.now) self.old.making }
+        ensures spare { self.new.spare + length bytes.now ≡ self.old.spare }
+        ensures free { self.new.free ≡ self.old.free }
+    {
+        push_lower(&mut self.bytes, bytes);
         self.making = Some(self.bytes.len());
     }
 
