@@ -57,6 +57,12 @@ tail_past kept bytes full back q e long =
     ∙ append_assoc (chunk_out full) (chunks_out (back ++ content_of q)) end
     ∙ ap (λ (l : Output). l ++ tail_owed back q) (sym (one_out full long))
 
+-- its bytes, behind its length
+pub one_bytes : (full : List ℕ) → length full ≡ 8192 → flat_map string (cut 8192 full) ≡ 96 ∷ (0 ∷ full)
+one_bytes full e =
+    ap (λ (l : List ℕ). flat_map string (cut 8192 l)) (sym (append-nil full)) ∙ ap (λ (l : List (List ℕ)). flat_map string l) (cut_first full [] e)
+    ∙ append-nil (string full) ∙ ap (λ (n : ℕ). int n ++ full) e
+
 -- ---- what goes out
 
 written_each : (chunks : List (List ℕ)) → written (flat_map chunk_out chunks) ≡ flat_map string chunks

@@ -9,7 +9,7 @@ use Rattle.bh_spec.specs.Messages.{Field, IsInterim, AreTrailers}
 use Rattle.bh_spec.specs.Canonical.{string, section, cut}
 use Rattle.bh_spec.specs.Items.{Item, interim_response, head, content_byte, trailer_section, ending, Head}
 use Rattle.bh_base.specs.declared.failed.Failed.{Failed}
-use Rattle.bh_base.specs.Steps.{Step, none}
+use Rattle.bh_base.specs.Steps.{Step, none, WroteAll}
 use Rattle.bh_model.specs.Ranges.{AreLimits}
 use Rattle.bh_push.specs.Hands.{kind_of_head}
 use Rattle.bh_stream.specs.Outputs.{Output, written, shown_in, plain}
@@ -25,10 +25,10 @@ use Rattle.bh_reading.specs.Coming.{HeadComes}
 use Rattle.bh_reading.proofs.Coming.{comes_behind}
 use Rattle.bh_canonical.specs.Stages.{is_begun, IsBeforeHead, IsInContent, head_call}
 use Rattle.bh_canonical.specs.Owed.{chunks_out, end_out, tail_owed}
-use Rattle.bh_canonical.specs.Writers.{Writing, before_all, behind_interim, with_chunk, behind_all, owed, held, takes, writing_of, IsStage}
+use Rattle.bh_canonical.specs.Writers.{Writing, before_all, behind_interim, with_chunk, behind_all, owed, held, takes, writing_of, IsStage, IsFramed}
 use Rattle.bh_canonical.specs.declared.sending.Stage.{Stage}
 use Rattle.bh_canonical.specs.declared.sending.Stage.TheVariants as stages
-use Rattle.bh_canonical.proofs.Owing.{tail_behind, tail_past, written_chunks, shown_chunks, rest_out, rest_due, shown_rest}
+use Rattle.bh_canonical.proofs.Owing.{tail_behind, tail_past, one_bytes, written_chunks, shown_chunks, rest_out, rest_due, shown_rest}
 
 -- what the job did for items
 abbrev pub JobSends : {S : Type 0} → (S → Step → S → Type 0) → Writing → Writing → List Item → S → Result (Unit {0}) Failed → S → Type 0
@@ -48,6 +48,16 @@ is_in_content stages.Ended kept (x ∷ bytes) some h = let e = h.1.2.1 in absurd
 pub cut_at : (kept bytes full back : List ℕ) (n : ℕ) → full ≡ kept ++ take n bytes → back ≡ drop n bytes → kept ++ bytes ≡ full ++ back
 cut_at kept bytes full back n e f =
     ap (λ (l : List ℕ). kept ++ l) (sym (take-append-drop n bytes)) ∙ sym (append_assoc kept (take n bytes) (drop n bytes)) ∙ (λ i. (sym e) i ++ (sym f) i)
+
+-- the chunk behind its length
+pub framed_more : (items more : List ℕ) → IsFramed items → drop 2 (items ++ more) ≡ drop 2 items ++ more
+framed_more items more h = ap (λ (l : List ℕ). drop 2 (l ++ more)) h.1 ∙ ap (λ (l : List ℕ). drop 2 l ++ more) (sym h.1)
+
+pub framed_is : (items : List ℕ) → IsFramed items → items ≡ 96 ∷ (0 ∷ drop 2 items)
+framed_is items h = h.1 ∙ ap (λ (l : List ℕ). 96 ∷ (0 ∷ drop 2 l)) (sym h.1)
+
+pub stays_framed : (items more now : List ℕ) → IsFramed items → now ≡ items ++ more → IsFramed now
+stays_framed items more now h e = (h.0 ++ more, e ∙ ap (λ (l : List ℕ). l ++ more) h.1)
 
 abbrev pub interim_text : Stage → ℕ → List Field → List ℕ
 interim_text stage status fields = text_of (record { kind = Response; begun = is_begun stage }) (interim_call (record { status = status; fields = fields }))
@@ -169,6 +179,16 @@ module _ {S : Type 0} {step : S → Step → S → Type 0} where
   chunk_cut f stages.Start w kept bytes full back e long inside sent = absurd inside
   chunk_cut f (stages.Interims d) w kept bytes full back e long inside sent = absurd inside
   chunk_cut f stages.Ended w kept bytes full back e long inside sent = absurd inside
+
+  -- a chunk that is whole went out, behind its length
+  sent_whole : {s t : S} (full piece : List ℕ) (r : Result (Unit {0}) Failed) → length full ≡ 8192 → piece ≡ 96 ∷ (0 ∷ full) → WroteAll step s piece r t → Sent step s (flat_map string (cut 8192 full)) r t
+  sent_whole full piece (Ok a) long e w = record { steps = w.steps; chain = w.chain; whole = (one_bytes full long ∙ sym e ∙ sym w.whole.0, w.whole.1); part = tt }
+  sent_whole full piece (Err x) long e w = record { steps = w.steps; chain = w.chain; whole = tt; part = (w.part.0, one_bytes full long ∙ sym e ∙ w.part.1, w.part.2) }
+
+  pub chunk_written : {s t : S} (stage : Stage) (kept bytes full back piece : List ℕ) (r : Result (Unit {0}) Failed) → kept ++ bytes ≡ full ++ back → length full ≡ 8192 → length back ≤ 8191 → IsInContent stage
+      → piece ≡ 96 ∷ (0 ∷ full) → WroteAll step s piece r t → JobSends step (writing_of stage kept) (writing_of stage back) (map content_byte bytes) s r t
+  chunk_written stage kept bytes full back piece (Ok a) e long few inside same w = chunk_went stage stage kept bytes full back e long few inside inside (sent_whole full piece (Ok a) long same w)
+  chunk_written stage kept bytes full back piece (Err x) e long few inside same w = chunk_cut x stage (writing_of stage back) kept bytes full back e long inside (sent_whole full piece (Err x) long same w)
 
   -- ---- interim responses
 

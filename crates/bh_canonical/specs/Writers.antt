@@ -1,5 +1,5 @@
 -- What contracts see of a writer of canonical texts.
-use Rattle.std.specs.Prelude.{◌≡◌, ◌≤◌, ℕ, true, false, List, [], length, vec_len, vec_capacity}
+use Rattle.std.specs.Prelude.{◌≡◌, ◌≤◌, ℕ, true, false, List, [], ◌∷◌, length, drop, vec_len, vec_capacity}
 use Rattle.bh_spec.specs.declared.Kind.TheVariants.{Response}
 use Rattle.bh_spec.specs.Bounds.{Bounds}
 use Rattle.bh_spec.specs.Items.{Item}
@@ -57,9 +57,14 @@ IsStage (stages.Interims encoder) kept = (kept ≡ []) × (encoder ≡ record { 
 IsStage (stages.Content encoder) kept = Unit {0}
 IsStage stages.Ended kept = Unit {0}
 
--- the open chunk isn't whole, and has room for a whole one
+-- the length of a whole chunk, in two bytes, stands in front
+abbrev pub IsFramed : List ℕ → Type 0
+IsFramed items = (kept : List ℕ) × (items ≡ 96 ∷ (0 ∷ kept))
+
+-- The open chunk isn't whole, and has room for a whole one.
 pub record IsWriter (w : Inside) : Type 0 where
-  pub few : vec_len w.chunk ≤ 8191
-  pub room : 8192 ≤ vec_capacity w.chunk
-  pub stage : IsStage w.stage w.chunk.items
+  pub few : vec_len w.chunk ≤ 8193
+  pub room : 8194 ≤ vec_capacity w.chunk
+  pub framed : IsFramed w.chunk.items
+  pub stage : IsStage w.stage (drop 2 w.chunk.items)
   pub none : w.none.lines ≡ []

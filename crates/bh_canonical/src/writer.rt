@@ -1,9 +1,9 @@
 //! The job of a canonical text.
-ghost use Rattle.std.specs.Prelude.{◌≡◌, IfOk};
+ghost use Rattle.std.specs.Prelude.{◌≡◌, ◌≤◌, ◌∷◌, IfOk, length, drop, vec_capacity};
 ghost use Rattle.bh_canonical.specs.Writers.{before_all};
 
-use crate::sending::{Stage, send_chunks, send_end, send_head, send_interim};
-use bh_base::{Failed, NoMemory, Sink};
+use crate::sending::{Stage, send_end, send_head, send_interim};
+use bh_base::{Failed, NoMemory, Sink, write_all};
 use bh_model::Fields;
 use bh_reading::Reading;
 use bh_stream::{Event, Job};
@@ -11,25 +11,49 @@ use std::alloc::Global;
 use std::marker::Model;
 use std::mem;
 
-/// The bytes of a chunk of canonical content, but for a shorter last one.
-const CHUNK: usize = 8192;
+/// A whole chunk of canonical content: its length, in two bytes, and 8,192 bytes.
+const WHOLE: usize = 8194;
+
+/// The length of a whole chunk.
+const LENGTH: [u8; 2] = [0x60, 0x00];
+
+/// Begins a chunk of these bytes.
+fn restart(chunk: &mut Vec<u8>, bytes: &[u8])
+    requires room { 8194 ≤ vec_capacity chunk.old }
+    requires few { length bytes.now ≤ 8191 }
+    ensures items { chunk.new.items ≡ 96 ∷ (0 ∷ bytes.now) }
+    ensures room { 8194 ≤ vec_capacity chunk.new }
+{
+    chunk.clear();
+    let _ = chunk.extend_from_slice(&LENGTH);
+    let _ = chunk.extend_from_slice(bytes);
+}
+
+/// The content of a chunk.
+fn content_of(chunk: &[u8]) -> &[u8]
+    requires { 2 ≤ length chunk.now }
+    ensures { result.now ≡ drop 2 chunk.now }
+{
+    &chunk[2..]
+}
 
 /// Writes canonical texts, one after the other, and holds an open chunk of content.
 #[derive(Drop)]
 pub struct CanonWriter {
     stage: Stage,
-    /// The chunk that isn't whole.
+    /// The chunk that isn't whole, behind the length of a whole one, so that it goes out in one write once it is.
     chunk: Vec<u8>,
     /// A trailer section that is left out.
     none: Fields,
 }
 
 impl Model for CanonWriter {
+    ghost use Rattle.std.specs.Prelude.{drop};
     ghost use Rattle.bh_canonical.specs.Writers.{Writing, writing_of, IsWriter};
 
     ghost Value = { Writing };
 
-    ghost view = { λ w. writing_of w.stage w.chunk.items };
+    ghost view = { λ w. writing_of w.stage (drop 2 w.chunk.items) };
 
     ghost invariant = { IsWriter };
 }
@@ -39,7 +63,8 @@ impl CanonWriter {
     pub fn new(alloc: Global) -> Result<CanonWriter, NoMemory>
         ensures { IfOk result (λ writer. writer ≡ before_all) }
     {
-        let chunk = Vec::with_capacity(alloc, CHUNK)?;
+        let mut chunk = Vec::with_capacity(alloc, WHOLE)?;
+        restart(&mut chunk, &[]);
         let none = Fields::with_room(alloc, 0, 0)?;
         Ok(CanonWriter {
             stage: Stage::Start,
@@ -52,7 +77,7 @@ impl CanonWriter {
     pub fn begin(&mut self)
         ensures { self.new ≡ before_all }
     {
-        self.chunk.clear(); // what a call that stopped left
+        restart(&mut self.chunk, &[]);
         self.stage = Stage::Start;
     }
 }
@@ -72,24 +97,16 @@ impl<S: Sink> Job<S, Reading> for CanonWriter {
     ghost takes = { takes };
 
     fn content(&mut self, sink: &mut S, bytes: &[u8]) -> Result<(), Failed> {
-        let room = CHUNK - self.chunk.len();
+        let room = WHOLE - self.chunk.len();
         if bytes.len() < room {
             let _ = self.chunk.extend_from_slice(bytes);
             return Ok(());
         }
         let (front, back) = bytes.split_at(room);
         let _ = self.chunk.extend_from_slice(front);
-        let stage = mem::replace(&mut self.stage, Stage::Ended);
-        let sent = send_chunks(stage, sink, &self.chunk);
-        self.chunk.clear();
-        let _ = self.chunk.extend_from_slice(back);
-        match sent {
-            Ok(next) => {
-                self.stage = next;
-                Ok(())
-            }
-            Err(failed) => Err(failed),
-        }
+        let written = write_all(sink, &self.chunk);
+        restart(&mut self.chunk, back);
+        written
     }
 
     fn event(&mut self, sink: &mut S, decoder: &Reading, event: Event) -> Result<(), Failed> {
@@ -110,13 +127,18 @@ impl<S: Sink> Job<S, Reading> for CanonWriter {
                 }
                 Err(failed) => Err(failed),
             },
-            Event::Trailers => send_end(stage, sink, &self.chunk, shown.fields()),
+            Event::Trailers => send_end(stage, sink, content_of(&self.chunk), shown.fields()),
         }
     }
 
     fn finish(&mut self, sink: &mut S) -> Result<(), Failed> {
         if let Stage::Content(encoder) = mem::replace(&mut self.stage, Stage::Ended) {
-            return send_end(Stage::Content(encoder), sink, &self.chunk, &self.none);
+            return send_end(
+                Stage::Content(encoder),
+                sink,
+                content_of(&self.chunk),
+                &self.none,
+            );
         }
         Ok(())
     }

@@ -1,4 +1,4 @@
-use Rattle.std.proofs.Common.{◌≡◌, List, Some, Ok, Err, IfSome, subst, sym, ap, ◌∙◌}
+use Rattle.std.proofs.Common.{◌≡◌, ℕ, List, drop, Some, Ok, Err, IfSome, subst, sym, ap, ◌∙◌}
 use Rattle.bh_spec.specs.Messages.{Field}
 use Rattle.bh_spec.specs.Items.{Head}
 use Rattle.bh_base.specs.declared.failed.Failed.{Failed}
@@ -12,7 +12,7 @@ use Rattle.bh_canonical.proofs.writer.CanonWriterJobReading.event.Goals as goal
 
 pub returns-in-Ok : goal.returns-in-Ok
 returns-in-Ok g c =
-    let kept = c.self.inside.chunk.items in
+    let kept : List ℕ = drop 2 c.self.inside.chunk.items in
     interim_ok c.args.decoder.now c.args.event c.args.self.now c.requires.shown c.replace-stage.result kept
     (ap (λ (st : Stage). writing_of st kept) c.replace-stage.ensures.value ∙ c.self.view_is)
     (subst (λ (st : Stage). IsStage st kept) (sym c.replace-stage.ensures.value) c.self.invariant.stage)
@@ -21,7 +21,7 @@ returns-in-Ok g c =
 
 pub returns-in-Err : goal.returns-in-Err
 returns-in-Err g c =
-    let kept = c.self.inside.chunk.items in
+    let kept : List ℕ = drop 2 c.self.inside.chunk.items in
     interim_err c.args.decoder.now c.args.event c.args.self.now c.requires.shown c.replace-stage.result kept
     (ap (λ (st : Stage). writing_of st kept) c.replace-stage.ensures.value ∙ c.self.view_is)
     (subst (λ (st : Stage). IsStage st kept) (sym c.replace-stage.ensures.value) c.self.invariant.stage)
@@ -29,7 +29,7 @@ returns-in-Err g c =
 
 pub returns-in-Ok-send_head : goal.returns-in-Ok-send_head
 returns-in-Ok-send_head g c =
-    let kept = c.self.inside.chunk.items in
+    let kept : List ℕ = drop 2 c.self.inside.chunk.items in
     head_ok c.args.decoder.now c.args.event c.args.self.now c.requires.shown c.replace-stage.result kept
     (ap (λ (st : Stage). writing_of st kept) c.replace-stage.ensures.value ∙ c.self.view_is)
     (subst (λ (st : Stage). IsStage st kept) (sym c.replace-stage.ensures.value) c.self.invariant.stage)
@@ -38,7 +38,7 @@ returns-in-Ok-send_head g c =
 
 pub returns-in-Err-send_head : goal.returns-in-Err-send_head
 returns-in-Err-send_head g c =
-    let kept = c.self.inside.chunk.items in
+    let kept : List ℕ = drop 2 c.self.inside.chunk.items in
     head_err c.args.decoder.now c.args.event c.args.self.now c.requires.shown c.replace-stage.result kept
     (ap (λ (st : Stage). writing_of st kept) c.replace-stage.ensures.value ∙ c.self.view_is)
     (subst (λ (st : Stage). IsStage st kept) (sym c.replace-stage.ensures.value) c.self.invariant.stage)
@@ -47,8 +47,8 @@ returns-in-Err-send_head g c =
 
 pub returns-in-Trailers : goal.returns-in-Trailers
 returns-in-Trailers g c =
-    let kept = c.self.inside.chunk.items in
+    let kept : List ℕ = drop 2 c.self.inside.chunk.items in
     trailers_sent c.args.decoder.now c.args.event c.args.self.now c.requires.shown c.replace-stage.result kept
     (ap (λ (st : Stage). writing_of st kept) c.replace-stage.ensures.value ∙ c.self.view_is)
     (subst (λ (st : Stage). IsStage st kept) (sym c.replace-stage.ensures.value) c.self.invariant.stage)
-    c.send_end.result c.in-Trailers.is c.fields-in-Trailers.result.now.lines (subst (λ (h : Held). IfSome h.lines (λ ls. c.fields-in-Trailers.result.now.lines ≡ ls)) c.decoder-shown.ensures c.fields-in-Trailers.ensures.lines) c.replace-stage.new.dest c.replace-stage.ensures.after (rw c.deref.ensures.value at c.send_end.ensures)
+    c.send_end.result c.in-Trailers.is c.fields-in-Trailers.result.now.lines (subst (λ (h : Held). IfSome h.lines (λ ls. c.fields-in-Trailers.result.now.lines ≡ ls)) c.decoder-shown.ensures c.fields-in-Trailers.ensures.lines) c.replace-stage.new.dest c.replace-stage.ensures.after (rw (c.content_of.ensures ∙ ap (drop 2) c.deref.ensures.value) at c.send_end.ensures)
