@@ -96,7 +96,7 @@ fn only(low: u64, high: u64) -> Allowed {
 /// The numbers that leave a remainder from `low` to the room, or nothing where `zero` is set.
 fn leaving(room: u64, zero: bool, low: u64) -> Allowed {
     Allowed {
-        rest: Some(Rest {
+        rest: Some(Remainder {
             room,
             zero,
             span: Span { low, high: room },
