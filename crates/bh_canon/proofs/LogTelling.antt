@@ -42,12 +42,16 @@ alike ((BadWrite n) ∷ steps) asks (f ∷ front) back e =
 alike ((Read n bytes) ∷ steps) asks ((Took b) ∷ front) back e =
     let same : bytes ≡ b = cc in
     let tail : entries steps ≡ front ++ back = cc in
-    let r = alike steps asks.2 front back tail in
-    (Read n bytes ∷ r.0, r.1, ap (λ (l : List Step). Read n bytes ∷ l) r.2, record {
-      takes = λ i. same i ++ r.3.takes i;
-      gives = r.3.gives;
-      meets = ap (λ (b : Bool). b || met r.0) (read_alike n bytes asks.0 ∙ ap is_empty same ∙ sym (read_alike one_read b (omega arith))) ∙ ap (λ (b : Bool). meets_end (Read one_read b') || b) r.3.meets;
-    })
+    let r = alike steps asks.2 front back tail in (
+      Read n bytes ∷ r.0,
+      r.1,
+      ap (λ (l : List Step). Read n bytes ∷ l) r.2,
+      record {
+        takes = λ i. same i ++ r.3.takes i;
+        gives = r.3.gives;
+        meets = ap (λ (b : Bool). b || met r.0) (read_alike n bytes asks.0 ∙ ap is_empty same ∙ sym (read_alike one_read b (omega arith))) ∙ ap (λ (b : Bool). meets_end (Read one_read b') || b) r.3.meets;
+      },
+    )
   where
     b' : List ℕ
     b' = b

@@ -39,7 +39,6 @@ some_text L bytes h = record { text = h.text; after = h.after; spelled = (h.spel
 is_viable : (L : Bounds) (bytes : List ℕ) → CanBecome (SomeOf (IsTextOf L)) bytes → IsViable L bytes
 is_viable L bytes h = record { text = h.text; after = h.after; spelled = (h.spelled.0, h.spelled.1.0, h.spelled.1.1, h.spelled.1.2); begins = h.begins }
 
-
 -- the bytes before a refused one are the longest front
 before_refused : (L : Bounds) (bytes : List ℕ) (at : ℕ) → at < length bytes → IsWithin L.input at → IsViable L (take at bytes)
     → (IsWithin L.input (at + 1) → IsViable L (take (at + 1) bytes) → ⊥) → IsLongest (SomeOf (IsTextOf L)) L.input bytes at
@@ -134,8 +133,16 @@ not_met at steps ends r more = by_last (meets_end r.last) refl
     all_taken = ap taken r.split ∙ taken-append r.front (r.last ∷ r.back) ∙ ap (λ (l : List ℕ). taken r.front ++ (l ++ taken r.back)) (sym (append-nil _))
 
     by_last : (b : Bool) → meets_end r.last ≡ b → met steps ≡ false
-    by_last true e = absurd (omega (arith, more, r.few, ap length all_taken, length-append (taken r.front) (taken (r.last ∷ []) ++ taken r.back),
-        length-append (taken (r.last ∷ [])) (taken r.back), ap length (taken_end r.last e), ap length back.0))
+    by_last true e = absurd (omega (
+      arith,
+      more,
+      r.few,
+      ap length all_taken,
+      length-append (taken r.front) (taken (r.last ∷ []) ++ taken r.back),
+      length-append (taken (r.last ∷ [])) (taken r.back),
+      ap length (taken_end r.last e),
+      ap length back.0,
+    ))
     by_last false e = whole ∙ rw (nothing, e, back.1) refl
 
 -- ---- the clauses
@@ -166,8 +173,7 @@ module _ (L : Bounds) (output : Message → List ℕ) (steps : List Step) (none_
   told_of_byte r reads answer inside =
       let front = front_of_input input left (taken steps) comes in
       let own = subst (λ (l : List ℕ). IsAnswer L l (refused r)) (append-nil (taken steps)) (answer []) in
-      let same : take (refused_at r) input ≡ take (refused_at r) (taken steps) = ap (take (refused_at r)) front.1 ∙ take-append-le (refused_at r) (taken steps) front.0 (omega (arith, inside)) in
-      (
+      let same : take (refused_at r) input ≡ take (refused_at r) (taken steps) = ap (take (refused_at r)) front.1 ∙ take-append-le (refused_at r) (taken steps) front.0 (omega (arith, inside)) in (
         subst (λ (l : List ℕ). IsAnswer L l (refused r)) (sym front.1) (answer front.0),
         (given steps, goes, begins_all r (inl (not_met (refused_at r) steps none_behind reads inside)) own same),
       )
@@ -177,8 +183,7 @@ module _ (L : Bounds) (output : Message → List ℕ) (steps : List Step) (none_
   told_refused (Limit at part) h = told_of_byte (Limit at part) h.0 h.1 (subst (λ (l : List ℕ). at < length l) (append-nil (taken steps)) (h.1 []).0.first.inside)
   told_refused (TooLong at) h = told_of_byte (TooLong at) h.0 h.1 (subst (λ (l : List ℕ). at < length l) (append-nil (taken steps)) (h.1 []).more)
   told_refused (Ended at part) h =
-      let all = whole_input input left (taken steps) comes (at_end h.0) in
-      (
+      let all = whole_input input left (taken steps) comes (at_end h.0) in (
         subst (λ (l : List ℕ). IsAnswer L l (refused (Ended at part))) (sym all.0) h.1,
         (given steps, goes, begins_all (Ended at part) (inr (λ x. h.1.unfinished x.spelled.0 x.spelled.1.0 x.spelled.1.1 (record { text = x.text; spelled = x.spelled.1.2; same = x.same }))) h.1 (ap (take at) all.0)),
       )
@@ -210,15 +215,19 @@ module _ (L : Bounds) (output : Message → List ℕ) (steps : List Step) (none_
   told_by : (r : End Summary Refusal) → StreamEnds L output r steps → Told L output r input left before now
   told_by (end.Done s) h =
       let all = whole_input input left (taken steps) comes (at_end h.1.end) in
-      let w = h.1 in
-      (given steps, record {
-        message = w.message;
-        omitted = w.omitted;
-        padding = w.padding;
-        answer = subst (λ (l : List ℕ). IsAnswer L l (whole w.message w.omitted w.padding)) (sym all.0) w.answer;
-        summary_is = subst (λ (l : List ℕ). s ≡ summary w.message w.omitted w.padding (length l)) (sym all.0) w.summary_is;
-        text_is = w.gave;
-      }, all.1, goes)
+      let w = h.1 in (
+        given steps,
+        record {
+          message = w.message;
+          omitted = w.omitted;
+          padding = w.padding;
+          answer = subst (λ (l : List ℕ). IsAnswer L l (whole w.message w.omitted w.padding)) (sym all.0) w.answer;
+          summary_is = subst (λ (l : List ℕ). s ≡ summary w.message w.omitted w.padding (length l)) (sym all.0) w.summary_is;
+          text_is = w.gave;
+        },
+        all.1,
+        goes,
+      )
   told_by (end.Refused r) h = told_refused r h.1
   told_by end.ReadFault h = (given steps, goes, begins_own)
   told_by end.WriteFault h = (given steps, goes, begins_own)

@@ -81,6 +81,10 @@ impl<'a, S: Source> Port for Lent<'a, S> {
 
     ghost read_leaves = { λ s t x h. record { same_sent = refl; same_faults = h.1; logs = tt } };
 
-    ghost write_leaves = { λ s t x h. record { same_left = ap S.left h.1; same_faults = ap S.read_faults h.1;
-        same_end = ap S.ended h.1; logs = tt } };
+    ghost write_leaves = { λ s t x h. record {
+      same_left = ap S.left h.1;
+      same_faults = ap S.read_faults h.1;
+      same_end = ap S.ended h.1;
+      logs = tt;
+    } };
 }

@@ -55,7 +55,9 @@ const ROWS: [(Report, &str); 18] = [
         "refused ended at=0 part=framing\n",
     ),
     (
-        Report::Refused(Cause::Binary(Refusal::TooLong { at: 1_099_511_627_776 })),
+        Report::Refused(Cause::Binary(Refusal::TooLong {
+            at: 1_099_511_627_776,
+        })),
         "refused too-long at=1099511627776\n",
     ),
     (

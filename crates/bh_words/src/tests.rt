@@ -45,8 +45,14 @@ fn meaning(alloc: Global, text: &str) -> Result<Meant, Fail> {
 /// Words, and what they mean.
 const ROWS: [(&str, Meant); 110] = [
     ("canon", Meant::Canon(8192, 65_536, 16, 1_099_511_627_776)),
-    ("canon|--part|16", Meant::Canon(16, 65_536, 16, 1_099_511_627_776)),
-    ("canon|--part=16", Meant::Canon(16, 65_536, 16, 1_099_511_627_776)),
+    (
+        "canon|--part|16",
+        Meant::Canon(16, 65_536, 16, 1_099_511_627_776),
+    ),
+    (
+        "canon|--part=16",
+        Meant::Canon(16, 65_536, 16, 1_099_511_627_776),
+    ),
     (
         "canon|--part|65535",
         Meant::Canon(65_535, 65_536, 16, 1_099_511_627_776),
@@ -55,7 +61,10 @@ const ROWS: [(&str, Meant); 110] = [
         "canon|--part=65535",
         Meant::Canon(65_535, 65_536, 16, 1_099_511_627_776),
     ),
-    ("canon|--section|16", Meant::Canon(8192, 16, 16, 1_099_511_627_776)),
+    (
+        "canon|--section|16",
+        Meant::Canon(8192, 16, 16, 1_099_511_627_776),
+    ),
     (
         "canon|--section=1048576",
         Meant::Canon(8192, 1_048_576, 16, 1_099_511_627_776),
@@ -96,7 +105,10 @@ const ROWS: [(&str, Meant); 110] = [
     ("check", Meant::Check(8192, 65_536, 16, 1_099_511_627_776)),
     ("check|--part=16|--input|4", Meant::Check(16, 65_536, 16, 4)),
     ("show", Meant::Show(8192, 65_536, 16, 1_099_511_627_776)),
-    ("show|--interims=0|--section|17", Meant::Show(8192, 17, 0, 1_099_511_627_776)),
+    (
+        "show|--interims=0|--section|17",
+        Meant::Show(8192, 17, 0, 1_099_511_627_776),
+    ),
     ("trial|0", Meant::Trial(0)),
     ("trial|5", Meant::Trial(5)),
     ("trial|0000067108864", Meant::Trial(67_108_864)),

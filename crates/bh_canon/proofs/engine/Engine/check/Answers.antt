@@ -10,9 +10,9 @@ check_end-requires g c = no_write_fault c.check.result c.check.ensures.call
 pub returns-clause-call : goal.returns-clause-call
 returns-clause-call g c =
     let through = check_through (λ p. p.source.now) (λ p. p.source.ghost_name) (λ p. p.write_faults) g.S.Source.read_step c.args.self.now
-        c.new-lent.result c.check.new.port _ c.check.result (rw c.self.view_is at c.check.ensures.call)
-        (λ e. search (rules, e, c.new-lent.ensures, c.drop-lent.ensures))
-        (reads_fit c.args.self.now g.met.S.Source.read_law g.met.S.Source.ended_law) in
+    c.new-lent.result c.check.new.port _ c.check.result (rw c.self.view_is at c.check.ensures.call)
+    (λ e. search (rules, e, c.new-lent.ensures, c.drop-lent.ensures))
+    (reads_fit c.args.self.now g.met.S.Source.read_law g.met.S.Source.ended_law) in
     rw (c.check_end.ensures, sym c.new-lent.ensures.now) through
 
 pub returns-clause-told : goal.returns-clause-told
