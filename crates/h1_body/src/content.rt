@@ -57,14 +57,18 @@ impl Content {
         ensures known { KnownBehind result self.new.phase }
     {
         for (i, &byte) in piece.iter().enumerate() {
-            if let Some(bytes) = self.take_content(behind(piece, i)) {
-                return Pushed::Content {
-                    taken: i + bytes.len(),
-                    bytes,
-                };
+            match self.take_content(behind(piece, i)) {
+                Some(bytes) => {
+                    return Pushed::Content {
+                        taken: i + bytes.len(),
+                        bytes,
+                    };
+                }
+                None => {}
             }
-            if let Some(cause) = self.take_byte(byte) {
-                return Pushed::Refused(cause);
+            match self.take_byte(byte) {
+                Some(cause) => return Pushed::Refused(cause),
+                None => {}
             }
             if self.is_at_trailers() {
                 return Pushed::Trailers { taken: i + 1 };

@@ -1,6 +1,6 @@
 use super::*;
 use bh_model::{Control, Fields, H1Why};
-use h1_head::{HeadWhy, StartLine, parse_head};
+use h1_head::{HeadWhy, Start, parse_head};
 use std::alloc::{AllocError, Global};
 
 /// Each field behind a bar.
@@ -30,7 +30,7 @@ fn request(alloc: Global, bytes: &[u8]) -> Result<Vec<u8>, HeadWhy> {
     }
     let head = parse_head(alloc, bytes)?;
     let mut text = Vec::new(alloc);
-    if let StartLine::Response { .. } = head.start {
+    if let Start::Response { .. } = head.start {
         return Err(HeadWhy::Form);
     }
     match target_of(alloc, &head, Scheme1::Https) {
@@ -134,7 +134,7 @@ fn lines_of_a_connection_are_dropped(rt: HostRuntime) -> Result<(), HeadWhy> {
         (b"HTTP/1.1 200 \r\n\r\n", b" "),
         // the six names
         (
-            b"HTTP/1.1 200 \r\nConnection:\r\nProxy-Connection:\r\nKeep-Alive:\r\na: b\r\nTE:\r\nTransfer-Encoding:\r\nUpgrade:\r\n\r\n",
+            b"HTTP/1.1 200 \r\nConnection:x\r\nProxy-Connection:x\r\nKeep-Alive:x\r\na:b\r\nTE:x\r\nTransfer-Encoding:x\r\nUpgrade:x\r\n\r\n",
             b"|a=b |a=b",
         ),
         // `host` and `content-length` stay in a header section, whatever `connection` names
@@ -190,7 +190,7 @@ fn framed(alloc: Global, bytes: &[u8], to_head: bool) -> Result<Result<Framing1,
         return Err(HeadWhy::NoMemory);
     }
     let head = parse_head(alloc, bytes)?;
-    if let StartLine::Response { status } = head.start {
+    if let Start::Response { status } = head.start {
         if status < 200 {
             return Err(HeadWhy::Form);
         }
