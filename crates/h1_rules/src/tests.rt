@@ -134,7 +134,7 @@ fn lines_of_a_connection_are_dropped(rt: HostRuntime) -> Result<(), HeadWhy> {
         (b"HTTP/1.1 200 \r\n\r\n", b" "),
         // the six names
         (
-            b"HTTP/1.1 200 \r\nConnection:x\r\nProxy-Connection:x\r\nKeep-Alive:x\r\na:b\r\nTE:x\r\nTransfer-Encoding:x\r\nUpgrade:x\r\n\r\n",
+            b"HTTP/1.1 200 \r\nConnection:\r\nProxy-Connection:\r\nKeep-Alive:\r\na:b\r\nTE:\r\nTransfer-Encoding:\r\nUpgrade:\r\n\r\n",
             b"|a=b |a=b",
         ),
         // `host` and `content-length` stay in a header section, whatever `connection` names
