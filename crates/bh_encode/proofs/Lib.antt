@@ -5,3 +5,4 @@ pub mod Sending
 pub mod Messages
 pub mod Canonicals
 pub mod Adding
+pub mod Gathering

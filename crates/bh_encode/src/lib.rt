@@ -2,6 +2,7 @@
 #![tactic(auto)]
 
 mod encoder;
+mod gathered;
 mod known;
 mod laws;
 mod parts;

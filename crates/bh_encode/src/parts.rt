@@ -8,7 +8,9 @@ ghost use Rattle.bh_spec.specs.declared.Form.TheVariants.{Indeterminate};
 ghost use Rattle.bh_base.specs.Batches.{Puts};
 ghost use Rattle.bh_model.specs.Values.{control_lent};
 ghost use Rattle.bh_encode.specs.Calls.{framing_number};
+ghost use Rattle.bh_encode.specs.Gathering.{Gathers};
 
+use crate::gathered::Gathered;
 use bh_base::{Batch, Sink};
 use bh_model::{ControlView, Fields, Form, Kind};
 use bh_varint::{least_width, write};
@@ -32,15 +34,39 @@ pub(crate) fn put_string<S: Sink>(out: &mut Batch, sink: &mut S, bytes: &[u8])
     out.put(sink, bytes);
 }
 
+/// Gathers a line. One for which there is no room stands behind what was gathered, and a long one is put by itself.
+fn put_line<S: Sink>(
+    out: &mut Batch,
+    sink: &mut S,
+    gathered: &mut Gathered,
+    name: &[u8],
+    value: &[u8],
+)
+    requires name { length name.now ≤ greatest }
+    requires value { length value.now ≤ greatest }
+    ensures { Gathers S.write_step sink.old out.old gathered.old (string name.now ++ string value.now) sink.new out.new gathered.new }
+{
+    if gathered.add_line(name, value) {
+        return;
+    }
+    gathered.put_in(out, sink);
+    if gathered.add_line(name, value) {
+        return;
+    }
+    put_string(out, sink, name);
+    put_string(out, sink, value);
+}
+
 /// Puts a section, and the number that ends it.
 pub(crate) fn put_section<S: Sink>(out: &mut Batch, sink: &mut S, fields: &Fields)
     ensures { Puts S.write_step sink.old out.old (section Indeterminate fields.now.lines) sink.new out.new }
 {
+    let mut gathered = Gathered::new();
     for i in 0..fields.len() {
         let (name, value) = fields.line(i);
-        put_string(out, sink, name);
-        put_string(out, sink, value);
+        put_line(out, sink, &mut gathered, name, value);
     }
+    gathered.put_in(out, sink);
     put_number(out, sink, 0);
 }
 
