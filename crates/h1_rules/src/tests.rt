@@ -1,6 +1,6 @@
 use super::*;
 use bh_model::{Control, Fields, H1Why};
-use h1_head::{HeadWhy, Start, parse_head};
+use h1_head::{HeadWhy, StartLine, parse_head};
 use std::alloc::{AllocError, Global};
 
 /// Each field behind a bar.
@@ -30,7 +30,7 @@ fn request(alloc: Global, bytes: &[u8]) -> Result<Vec<u8>, HeadWhy> {
     }
     let head = parse_head(alloc, bytes)?;
     let mut text = Vec::new(alloc);
-    if let Start::Response { .. } = head.start {
+    if let StartLine::Response { .. } = head.start {
         return Err(HeadWhy::Form);
     }
     match target_of(alloc, &head, Scheme1::Https) {
@@ -190,7 +190,7 @@ fn framed(alloc: Global, bytes: &[u8], to_head: bool) -> Result<Result<Framing1,
         return Err(HeadWhy::NoMemory);
     }
     let head = parse_head(alloc, bytes)?;
-    if let Start::Response { status } = head.start {
+    if let StartLine::Response { status } = head.start {
         if status < 200 {
             return Err(HeadWhy::Form);
         }
