@@ -22,11 +22,12 @@ use Rattle.bh_push.specs.Bodies.{at_of, IsBody, Becomes, IsContent}
 use Rattle.bh_push.specs.Completing.{PaddingRest}
 use Rattle.bh_push.specs.Decoders.{At, Rest, length_part, behind_content, in_trailers, IsBehindContent}
 use Rattle.bh_push.specs.Hands.{kind_of_shown, kind_at}
-use Rattle.bh_push.specs.Standing.{Comes, head_behind, LinesAre, IsRight, EndsWith}
+use Rattle.bh_push.specs.Standing.{Comes, head_behind, LinesAre, IsRight, EndsWith, IsPrompt}
 use Rattle.bh_control.specs.Control.{ControlState}
 use Rattle.bh_push.specs.Courses.{head_shown, shown_head, shown_lines, InSection, Stays, Halts, kind_now, IsFull, head_of, at_by, place_of, zeros_of, IsSection, IsCourse, IsOpenBy, IsOpen, Taken, Says}
 use Rattle.bh_push.proofs.Begun.{section_begun, yields_into}
 use Rattle.bh_push.proofs.Courses.{Shown, body_kind, halts_at, comes_here, stays_in, head_kept, same_lines_shown, taken_of, dead_of, keeps}
+use Rattle.bh_push.proofs.Prompts.{body_prompt}
 use Rattle.bh_push.proofs.Walking.{lines_on}
 use Rattle.bh_push.proofs.Ends.{content_behind}
 
@@ -101,7 +102,7 @@ content_refused c d piece offset form part e stays o k f g h phase number b =
     (stays_in c d stages.Content e stays o k.limits (ap (λ (x : ControlState). x.limits) k.control) (ap (λ (x : SectionView). x.limits) k.section)
     (head_kept c d k.control k.status) (inr (kept_outside c d k)))
     (halts_at c d piece offset stages.Content (at_of phase c.body.form number) e stays k.status (b c.limits)
-    (λ shown. body_kind phase c.body.form number shown ∙ sym (body_kind c.body.phase c.body.form c.body.number shown))))
+    (body_prompt c.limits phase c.body.form number) (λ shown. body_kind phase c.body.form number shown ∙ sym (body_kind c.body.phase c.body.form c.body.number shown))))
 
 -- ---- the first bytes of the trailer section
 
@@ -242,7 +243,7 @@ kind_begun c b form v h =
 -- A byte that is refused at once stood behind the content; another in the section.
 halts_so : (c b d : Course) (form : Form) (v : SectionView) (piece : List ℕ) (offset : ℕ) (part : Part) → Begins c b form v → IsRefused (SomeOf (Rest c.limits (place_of c))) [] piece offset part
     → Halts b piece offset d → Halts c piece offset d
-halts_so c b d form v piece zero part h r s = record { at = place_of c; comes = comes_here c.limits (place_of c) part r.next; there = refl; kind = s.kind ∙ kind_begun c b form v h }
+halts_so c b d form v piece zero part h r s = record { at = place_of c; comes = comes_here c.limits (place_of c) part r.next; prompt = subst (IsPrompt c.limits) (place_over c b form v h) tt; there = refl; kind = s.kind ∙ kind_begun c b form v h }
 halts_so c b d form v piece (suc n) part h r s =
     let cut = cons_taken piece (suc n) (omega arith) (omega (arith, r.inside)) in
     let m : Comes b.limits (in_trailers form (begun_view form Trailer v)) (take (suc n) piece) [] s.at =
@@ -253,6 +254,7 @@ halts_so c b d form v piece (suc n) part h r s =
     record {
       at = s.at;
       comes = subst (λ (x : At). Comes c.limits x (take (suc n) piece) [] s.at) (place_over c b form v h) i;
+      prompt = subst (λ (L : Bounds). IsPrompt L s.at) h.limits s.prompt;
       there = ap (kind_at s.at) (sym h.head) ∙ s.there ∙ kind_begun c b form v h;
       kind = s.kind ∙ kind_begun c b form v h;
     }

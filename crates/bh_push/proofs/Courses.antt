@@ -30,7 +30,7 @@ use Rattle.bh_push.specs.Bodies.{at_of, IsBody}
 use Rattle.bh_push.specs.Decoders.{At, Rest, in_header, behind_head, in_trailers, in_padding}
 use Rattle.bh_push.specs.Hands.{kind_of_head, kind_of_shown, kind_at}
 use Rattle.bh_push.specs.Ending.{kind_by_status}
-use Rattle.bh_push.specs.Standing.{Comes, head_behind, LinesAre, IsRight}
+use Rattle.bh_push.specs.Standing.{Comes, head_behind, LinesAre, IsRight, IsWhole, IsPrompt}
 use Rattle.bh_push.specs.Courses.{head_shown, shown_head, lines_in, shown_lines, InSection, LinesKept, Stays, Halts, kind_now, head_of, at_by, place_of, zeros_of, IsSection, IsCourse, IsOpenBy, IsOpen, Taken, Says, IsAt}
 use Rattle.bh_spec.proofs.Residuals.{residual_here, residual_step}
 use Rattle.bh_spec.proofs.Pieces.{next_becomes, next_unfinished}
@@ -134,10 +134,11 @@ pub interim_kind : (c d : Course) (form : Form) (before code : ℕ) → c.stage 
 interim_kind c d form before code e f status = same_kind c d (stages.BeforeInterim form before code) (stages.Interim form before code) e f refl status
 
 pub halts_at : (c d : Course) (piece : List ℕ) (offset : ℕ) (s : Stage) (at : At) → c.stage ≡ s → d.stage ≡ s → d.status ≡ c.status → Comes c.limits (at_by s c) (take offset piece) [] at
-    → ((shown : Option Head) → kind_at at shown ≡ kind_at (at_by s c) shown) → Halts c piece offset d
-halts_at c d piece offset s at e f status comes kind = record {
+    → IsPrompt c.limits at → ((shown : Option Head) → kind_at at shown ≡ kind_at (at_by s c) shown) → Halts c piece offset d
+halts_at c d piece offset s at e f status comes prompt kind = record {
   at = at;
   comes = subst (λ (x : Stage). Comes c.limits (at_by x c) (take offset piece) [] at) (sym e) comes;
+  prompt = prompt;
   there = kind (shown_head c) ∙ ap (λ (x : Stage). kind_at (at_by x c) (shown_head c)) (sym e);
   kind = same_kind c d s s e f refl status;
 }
@@ -146,8 +147,9 @@ halts_at c d piece offset s at e f status comes kind = record {
 pub comes_here : (L : Bounds) (v : At) (part : Part) → IsNext (SomeOf (Rest L v)) [] part → Comes L v [] [] v
 comes_here L v part next = record { within = residual_here (Rest L v); anyway = residual_here (Rest no_bounds v); goes_on = next_becomes (SomeOf (Rest L v)) [] part next }
 
-pub halts_here : (c d : Course) (piece : List ℕ) (part : Part) (s : Stage) → c.stage ≡ s → d.stage ≡ s → d.status ≡ c.status → IsNext (SomeOf (Rest c.limits (at_by s c))) [] part → Halts c piece 0 d
-halts_here c d piece part s e f status next = halts_at c d piece 0 s (at_by s c) e f status (comes_here c.limits (at_by s c) part next) (λ shown. refl)
+pub halts_here : (c d : Course) (piece : List ℕ) (part : Part) (s : Stage) → c.stage ≡ s → d.stage ≡ s → d.status ≡ c.status → IsPrompt c.limits (at_by s c) → IsNext (SomeOf (Rest c.limits (at_by s c))) [] part
+    → Halts c piece 0 d
+halts_here c d piece part s e f status prompt next = halts_at c d piece 0 s (at_by s c) e f status (comes_here c.limits (at_by s c) part next) prompt (λ shown. refl)
 
 pub dead_of : (c d : Course) (piece : List ℕ) (offset : ℕ) (part : Part) (s : Stage) → c.stage ≡ s → IsDead (SomeOf (Rest c.limits (at_by s c))) (SomeOf (Rest no_bounds (at_by s c))) [] piece offset part
     → Stays c d → Halts c piece offset d → Says c piece (stepped.Dead offset part) d
@@ -295,6 +297,12 @@ header_end c d form piece taken e f formed headed none o ends b limits control s
 pub refused_on : (v : SectionView) (piece : List ℕ) (offset : ℕ) (part : Part) → IsSection v → IsRefused (IsWanted v) [] piece offset part → GoesOn (IsWanted v) [] (take offset piece)
 refused_on v piece offset part s r = next_unfinished (IsWanted v) (section_reader v s.left).once [] (take offset piece) part r.next
 
+-- and isn't whole before it
+pub way_prompt : (L : Bounds) (v u : SectionView) (piece : List ℕ) (offset : ℕ) (part : Part) → v.limits ≡ L → IsSection v → IsRefused (IsWanted v) [] piece offset part
+    → IsOnTheWay v (take offset piece) u → IsWhole L u → ⊥
+way_prompt L v u piece offset part e s r k w =
+    goes_more (section_rest v.limits v) (section_rest v.limits u) (take offset piece) (k.leads v.limits) (refused_on v piece offset part s r) w.0 (subst (λ (K : Bounds). section_rest K u w.0 []) (sym e) w.1)
+
 header_halts : (c d : Course) (form : Form) (piece : List ℕ) (offset : ℕ) (part : Part) → c.stage ≡ stages.Header form → d.stage ≡ stages.Header form → IsOpen c → d.status ≡ c.status
     → IsRefused (IsWanted c.section) [] piece offset part → (u : SectionView) → IsOnTheWay c.section (take offset piece) u → Halts c piece offset d
 header_halts c d form piece offset part e f o status r u k =
@@ -304,7 +312,7 @@ header_halts c d form piece offset part e f o status r u k =
     let m : Comes v.limits (in_header form of v) (take offset piece) [] (in_header form of u) =
     header_goes_on form of v u (take offset piece) s.left k.leads k.same.limits (refused_on v piece offset part s r) in
     halts_at c d piece offset (stages.Header form) (in_header form of u) e f status
-    (subst (λ (L : Bounds). Comes L (in_header form of v) (take offset piece) [] (in_header form of u)) o.course.section m) (λ shown. refl)
+    (subst (λ (L : Bounds). Comes L (in_header form of v) (take offset piece) [] (in_header form of u)) o.course.section m) (way_prompt c.limits v u piece offset part o.course.section s r k) (λ shown. refl)
 
 pub header_refused : (c d : Course) (form : Form) (piece : List ℕ) (offset : ℕ) (part : Part) → c.stage ≡ stages.Header form → d.stage ≡ stages.Header form → IsOpen c
     → SectionShows c.section piece (sections.Dead offset part) → IsBehind c.section piece (sections.Dead offset part) d.section → d.limits ≡ c.limits → d.control.limits ≡ c.control.limits
@@ -361,7 +369,7 @@ trailers_halts c d form piece offset part e f o status r u k =
     let m : Comes v.limits (in_trailers form v) (take offset piece) [] (in_trailers form u) =
     trailers_go_on form v u (take offset piece) s.left k.leads (refused_on v piece offset part s r) in
     halts_at c d piece offset (stages.Trailers form) (in_trailers form u) e f status
-    (subst (λ (L : Bounds). Comes L (in_trailers form v) (take offset piece) [] (in_trailers form u)) o.course.section m) (λ shown. refl)
+    (subst (λ (L : Bounds). Comes L (in_trailers form v) (take offset piece) [] (in_trailers form u)) o.course.section m) (way_prompt c.limits v u piece offset part o.course.section s r k) (λ shown. refl)
 
 pub trailers_refused : (c d : Course) (form : Form) (piece : List ℕ) (offset : ℕ) (part : Part) → c.stage ≡ stages.Trailers form → d.stage ≡ stages.Trailers form → IsOpen c
     → SectionShows c.section piece (sections.Dead offset part) → IsBehind c.section piece (sections.Dead offset part) d.section → d.limits ≡ c.limits → d.control ≡ c.control → d.status ≡ c.status
@@ -406,7 +414,7 @@ pub padding_refused : (c : Course) (before : ℕ) (piece : List ℕ) → c.stage
 padding_refused c before piece e o some other =
     dead_of c c piece 0 parts.Padding (stages.Padding before) e
     (byte_dead (SomeOf (Rest c.limits (in_padding before))) (SomeOf (Rest no_bounds (in_padding before))) piece parts.Padding some (next c.limits) (none c.limits) (none no_bounds))
-    (stays_in c c (stages.Padding before) e e o refl refl refl refl (inr (λ x. x, refl))) (halts_here c c piece parts.Padding (stages.Padding before) e e refl (next c.limits))
+    (stays_in c c (stages.Padding before) e e o refl refl refl refl (inr (λ x. x, refl))) (halts_here c c piece parts.Padding (stages.Padding before) e e refl tt (next c.limits))
   where
     next : (K : Bounds) → IsNext (SomeOf (Rest K (in_padding before))) [] parts.Padding
     next K = record { before = []; byte = 0; after = []; spelled = (ending Nothing (before + 1) ∷ [], (1, refl, refl)); begins = refl }

@@ -21,9 +21,10 @@ use Rattle.bh_push.specs.Bodies.{at_of}
 use Rattle.bh_push.specs.Decoders.{At, Rest, IsBehindContent}
 use Rattle.bh_push.specs.Standing.{Comes, LinesAre, IsRight, EndsWith}
 use Rattle.bh_push.proofs.Walking.{lines_here}
+use Rattle.bh_push.proofs.Prompts.{open_prompt}
 use Rattle.std.proofs.lemmas.Bool.{cases_lt}
 use Rattle.bh_push.specs.Courses.{shown_head, shown_lines, InSection, LinesKept, Stays, Stood, IsFull, IsDeadAt, IsLimitAt, at_by, place_of, IsSection, IsOpenBy, IsOpen, Walked}
-use Rattle.bh_push.specs.Hands.{kind_at, Held, IsInSection, Handed, IsLong, Keeps, IsPrompt}
+use Rattle.bh_push.specs.Hands.{kind_at, Held, IsInSection, Handed, IsLong, Keeps}
 use Rattle.bh_push.specs.Pushes.{DecoderView, RefusesBehind, Refuses, refused_at, refused_view}
 use Rattle.bh_push.specs.Kinds.{KindBehind}
 use Rattle.bh_push.proofs.Inputs.{Fronted, front_long, front_of_front, dead_longer, limit_longer}
@@ -127,6 +128,7 @@ refused_behind v w taken most refusal piece within offset part g inside r s =
     record {
       at = s.at;
       takes = t;
+      prompt = s.prompt;
       none = λ c. r.after (subst (CanBecome (SomeOf (Rest v.limits (place_of v)))) (sym (take-add offset 1 piece)) ((same.becomes (take 1 (drop offset piece))).1 c));
     }
 
@@ -137,7 +139,7 @@ kind_behind v w taken most n refusal piece within offset r g inside e s =
 
 -- a byte that is too many stood behind those that were walked
 pub stood_behind : (v w : Course) (within : List ℕ) → Walked v within (length within) [] w → Stood v within (length within) w
-stood_behind v w within h = record { at = place_of w; comes = h.comes; kind = ap (kind_at (place_of w)) h.head }
+stood_behind v w within h = record { at = place_of w; comes = h.comes; prompt = open_prompt w v.limits h.limits h.stays; kind = ap (kind_at (place_of w)) h.head }
 
 pub kind_again : (v : Held) (piece : List ℕ) (r : Refusal) → v.decoder.refusal ≡ Some r → v.decoder.refusal ≡ None → KindBehind v piece r v
 kind_again v piece r e none = absurd (let no : Some r ≡ None = sym e ∙ none in cc)
@@ -154,7 +156,7 @@ refuses_more v w taken most None piece within g less h =
           refl,
           g.input ∙ ap (λ (i : ℕ). Some i) full,
           less,
-          (place_of w, takes_so v w piece within (most - taken) (length within) [] g.front h),
+          (place_of w, takes_so v w piece within (most - taken) (length within) [] g.front h, open_prompt w v.limits h.limits h.stays),
         ),
         (place_of w, refused_so v w taken (taken + length within) (TooLong (taken + length within)) refl h.limits),
       ),
@@ -217,29 +219,3 @@ fits v taken most refusal piece within count g h = omega (arith, g.few, h, front
 pub right_content : (bytes : List ℕ) (w : At) → 0 < length bytes → IsRight (map content_byte bytes) w → IsBehindContent w
 right_content [] w some r = absurd (omega (arith, some))
 right_content (b ∷ bytes) w some r = r
-
--- ---- no event stands where the decoder does
-
-section_prompt : (L : Bounds) (v : SectionView) → v.limits ≡ L → IsSection v → ((fields : _) × section_rest L v fields []) → ⊥
-section_prompt L v e s w = s.more w.0 (subst (λ (K : Bounds). section_rest K v w.0 []) (sym e) w.1)
-
-body_prompt : (L : Bounds) (phase : Phase) (form : Form) (number : List ℕ) → IsPrompt L (at_of phase form number)
-body_prompt L phases.Head form number = tt
-body_prompt L phases.Length form number = tt
-body_prompt L (phases.Run missing) form number = tt
-body_prompt L phases.Over form number = tt
-
-prompt_by : (c : Course) (s : Stage) → c.section.limits ≡ c.limits → IsOpenBy s c → IsPrompt c.limits (at_by s c)
-prompt_by c stages.Framing e o = tt
-prompt_by c (stages.Control form) e o = tt
-prompt_by c (stages.Status form before) e o = tt
-prompt_by c (stages.BeforeInterim form before status) e o = tt
-prompt_by c (stages.Interim form before status) e o = section_prompt c.limits c.section e o.1
-prompt_by c (stages.BeforeHeader form) e o = tt
-prompt_by c (stages.Header form) e o = section_prompt c.limits c.section e o
-prompt_by c stages.Content e o = body_prompt c.limits c.body.phase c.body.form c.body.number
-prompt_by c (stages.Trailers form) e o = section_prompt c.limits c.section e o
-prompt_by c (stages.Padding before) e o = tt
-
-pub open_prompt : (c : Course) (L : Bounds) → c.limits ≡ L → IsOpen c → IsPrompt L (place_of c)
-open_prompt c L e o = subst (λ (K : Bounds). IsPrompt K (place_of c)) e (prompt_by c c.stage o.course.section o.at)

@@ -12,6 +12,7 @@ pub mod Statuses
 pub mod Numbered
 pub mod Framings
 pub mod StatusBytes
+pub mod Prompts
 pub mod Courses
 pub mod Bodied
 pub mod Begun

@@ -102,7 +102,7 @@ control_halts c d form piece offset part e f o status r u k =
     let g = next_unfinished (IsWanted v) (control_reader v.limits v s.left).once [] (take offset piece) part r.next in
     let m : Comes v.limits (in_control form (read_in v)) (take offset piece) [] (in_control form (read_in u)) = control_goes_on form v u (take offset piece) s.left k.leads g in
     halts_at c d piece offset (stages.Control form) (in_control form (read_in u)) e f status
-    (subst (λ (L : Bounds). Comes L (in_control form (read_in v)) (take offset piece) [] (in_control form (read_in u))) o.course.control m) (λ shown. refl)
+    (subst (λ (L : Bounds). Comes L (in_control form (read_in v)) (take offset piece) [] (in_control form (read_in u))) o.course.control m) tt (λ shown. refl)
 
 pub control_refused : (c d : Course) (form : Form) (piece : List ℕ) (offset : ℕ) (part : Part) → c.stage ≡ stages.Control form → d.stage ≡ stages.Control form → IsOpen c
     → ControlShows c.control piece (controls.Dead offset part) → IsBehind c.control piece (controls.Dead offset part) d.control → d.limits ≡ c.limits → d.section ≡ c.section
@@ -167,7 +167,7 @@ framing_refused c d piece e f o limits control section status some dead =
     let h = framing_dead c.limits c.number piece some o.course.five s.unfinished s.live dead in
     dead_of c d piece 0 parts.Framing stages.Framing e h
     (stays_in c d stages.Framing e f o limits control (ap (λ (x : SectionView). x.limits) section) refl (inr (λ x. x, same_lines_shown c d section)))
-    (halts_here c d piece parts.Framing stages.Framing e f status h.refused.next)
+    (halts_here c d piece parts.Framing stages.Framing e f status tt h.refused.next)
 
 -- what follows the number
 pub request_open : (c d : Course) (form : Form) → d.stage ≡ stages.Control form → d.control ≡ begun_state c.control → IsCourse c → d.limits ≡ c.limits → d.section.limits ≡ c.section.limits → IsOpen d

@@ -30,7 +30,7 @@ use Rattle.bh_push.specs.Completing.{AfterStart, InterimRest, ResponseRest}
 use Rattle.bh_push.specs.Decoders.{At, Rest, in_status, in_interim, before_header}
 use Rattle.bh_push.specs.Standing.{Comes, IsLeastStatus}
 use Rattle.bh_push.specs.Courses.{IsSilent, Halts, head_of, at_by, place_of, zeros_of, IsCounted, IsCourse, IsOpenBy, IsOpen, Says, FollowsInterim, FollowsFinal}
-use Rattle.bh_push.proofs.Courses.{SectionShows, stays_in, halts_at, halts_here, refused_on, same_lines_shown, whole_lines, taken_of, dead_of, limit_of, dead_in, limit_in, keeps, open_by, moves_at, section_on, whole_some, same_lines, free_lines}
+use Rattle.bh_push.proofs.Courses.{SectionShows, stays_in, halts_at, halts_here, refused_on, way_prompt, same_lines_shown, whole_lines, taken_of, dead_of, limit_of, dead_in, limit_in, keeps, open_by, moves_at, section_on, whole_some, same_lines, free_lines}
 use Rattle.bh_push.proofs.Requesting.{take_one, counted_nil, least_few}
 use Rattle.bh_push.proofs.Requests.{after_start, response_some, interim_whole}
 use Rattle.bh_push.proofs.Sections.{section_reader, both}
@@ -132,7 +132,7 @@ status_refused c d form before least piece e f o limits control section status s
     let h = status_dead c.limits form before least c.number piece some s.0 is b.unfinished b.live dead in
     dead_of c d piece 0 parts.Status (stages.Status form before) e h
     (stays_in c d (stages.Status form before) e f o limits control (ap (λ (x : SectionView). x.limits) section) refl (inr (λ x. x, same_lines_shown c d section)))
-    (halts_here c d piece parts.Status (stages.Status form before) e f status h.refused.next)
+    (halts_here c d piece parts.Status (stages.Status form before) e f status tt h.refused.next)
 
 pub status_limited : (c d : Course) (form : Form) (before least : ℕ) (piece : List ℕ) → c.stage ≡ stages.Status form before → d.stage ≡ stages.Status form before → IsOpen c → d.limits ≡ c.limits
     → d.control.limits ≡ c.control.limits → d.section ≡ c.section → d.status ≡ c.status → 0 < length piece → IsLeastStatus c.limits before least
@@ -143,7 +143,7 @@ status_limited c d form before least piece e f o limits control section status s
     let h = status_limit c.limits form before least c.number piece some s.0 is b.unfinished b.live dead alive in
     limit_of c d piece 0 parts.Status (stages.Status form before) e h
     (stays_in c d (stages.Status form before) e f o limits control (ap (λ (x : SectionView). x.limits) section) refl (inr (λ x. x, same_lines_shown c d section)))
-    (halts_here c d piece parts.Status (stages.Status form before) e f status h.refused.next)
+    (halts_here c d piece parts.Status (stages.Status form before) e f status tt h.refused.next)
 
 -- ---- the section behind it
 
@@ -231,7 +231,8 @@ interim_halts c d form before status piece offset part e f o stays r u k =
     (λ K i. ResponseRest K form (before + 1)) v.limits (take offset piece) (section_reader v s.1.left) (both v u (take offset piece) k.leads) (refused_on v piece offset part s.1 r)
     (behind_interim v.limits form before (section_rest v.limits u) few) in
     halts_at c d piece offset (stages.Interim form before status) (in_interim form before status u) e f stays
-    (subst (λ (L : Bounds). Comes L (in_interim form before status v) (take offset piece) [] (in_interim form before status u)) o.course.section m) (λ shown. refl)
+    (subst (λ (L : Bounds). Comes L (in_interim form before status v) (take offset piece) [] (in_interim form before status u)) o.course.section m)
+    (way_prompt c.limits v u piece offset part o.course.section s.1 r k) (λ shown. refl)
 
 pub interim_refused : (c d : Course) (form : Form) (before status : ℕ) (piece : List ℕ) (offset : ℕ) (part : Part) → c.stage ≡ stages.Interim form before status → d.stage ≡ stages.Interim form before status
     → IsOpen c → SectionShows c.section piece (sections.Dead offset part) → IsBehind c.section piece (sections.Dead offset part) d.section → d.limits ≡ c.limits → d.control.limits ≡ c.control.limits

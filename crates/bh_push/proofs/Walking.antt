@@ -17,7 +17,7 @@ use Rattle.bh_push.specs.declared.course.Stepped.{Stepped}
 use Rattle.bh_push.specs.declared.course.Stepped.TheVariants as stepped
 use Rattle.bh_push.specs.Decoders.{At, Rest}
 use Rattle.bh_push.specs.Hands.{kind_at}
-use Rattle.bh_push.specs.Standing.{Comes, head_behind, LinesAre, EndsWith}
+use Rattle.bh_push.specs.Standing.{Comes, head_behind, LinesAre, EndsWith, IsPrompt}
 use Rattle.bh_push.specs.Courses.{head_of, shown_lines, InSection, LinesKept, Stays, Stood, Halts, kind_now, IsFull, IsDeadAt, IsLimitAt, Says, place_of, IsOpen, IsAlive, Taken, Walked}
 
 -- ---- what is shown
@@ -104,7 +104,7 @@ comes_behind v w u piece rest i k e a m =
 -- where the byte stood
 pub stood_on : (v w u : Course) (piece rest : List ℕ) (i k : ℕ) → rest ≡ drop i piece → Walked v piece i [] w → Halts w rest k u → Stood v piece (i + k) u
 stood_on v w u piece rest i k e a s =
-    record { at = s.at; comes = comes_behind v w s.at piece rest i k e a s.comes; kind = s.kind ∙ sym s.there ∙ ap (kind_at s.at) a.head }
+    record { at = s.at; comes = comes_behind v w s.at piece rest i k e a s.comes; prompt = subst (λ (L : Bounds). IsPrompt L s.at) a.limits s.prompt; kind = s.kind ∙ sym s.there ∙ ap (kind_at s.at) a.head }
 
 pub walk_front : (piece rest front bytes : List ℕ) (i n : ℕ) → rest ≡ drop i piece → take n rest ≡ front ++ bytes → (all : List ℕ) × (take (i + n) piece ≡ all ++ bytes)
 walk_front piece rest front bytes i n e f = (
@@ -176,6 +176,7 @@ first_halts : (c b d : Course) (piece : List ℕ) (offset : ℕ) → Walked c pi
 first_halts c b d piece offset a same s = record {
   at = s.at;
   comes = subst (λ (k : ℕ). Comes c.limits (place_of c) (take k piece) [] s.at) (none_before offset) (comes_behind c b s.at piece piece 0 offset refl a s.comes);
+  prompt = subst (λ (L : Bounds). IsPrompt L s.at) a.limits s.prompt;
   there = ap (kind_at s.at) (sym a.head) ∙ s.there ∙ same;
   kind = s.kind ∙ same;
 }

@@ -31,7 +31,7 @@ use Rattle.bh_push.specs.Bodies.{at_of, IsBody}
 use Rattle.bh_push.specs.Completing.{AfterFraming, InterimRest, AfterStart}
 use Rattle.bh_push.specs.Hands.{kind_at}
 use Rattle.bh_push.specs.Decoders.{At, Rest, in_framing, in_control, in_status, before_interim, in_interim, before_header, in_header, in_trailers, in_padding}
-use Rattle.bh_push.specs.Standing.{Comes, IsLeastStatus, read_in, head_behind, LinesAre, IsRight, EndsWith, IsRunOver}
+use Rattle.bh_push.specs.Standing.{Comes, IsLeastStatus, read_in, head_behind, LinesAre, IsRight, EndsWith, IsRunOver, IsPrompt}
 
 -- ---- where it stands
 
@@ -190,16 +190,19 @@ pub record Stays (v w : Course) : Type 0 where
 abbrev pub kind_now : Course → Option Kind
 kind_now c = kind_at (place_of c) (shown_head c)
 
--- Where a byte stood that is refused: the bytes of the piece before it lead there and yield nothing, and the kind is the one there.
+-- Where a byte stood that is refused: the bytes of the piece before it lead there and yield nothing, no event stands there, and the kind
+-- is the one there.
 pub record Stood (v : Course) (piece : List ℕ) (offset : ℕ) (w : Course) : Type 0 where
   pub at : At
   pub comes : Comes v.limits (place_of v) (take offset piece) [] at
+  pub prompt : IsPrompt v.limits at
   pub kind : kind_now w ≡ kind_at at (shown_head v)
 
 -- the same within a phase, in which the kind stays
 pub record Halts (v : Course) (piece : List ℕ) (offset : ℕ) (w : Course) : Type 0 where
   pub at : At
   pub comes : Comes v.limits (place_of v) (take offset piece) [] at
+  pub prompt : IsPrompt v.limits at
   pub there : kind_at at (shown_head v) ≡ kind_now v
   pub kind : kind_now w ≡ kind_now v
 

@@ -6,7 +6,6 @@ use Rattle.bh_spec.specs.declared.Kind.TheVariants.{Request, Response}
 use Rattle.bh_spec.specs.Messages.{Control, Field}
 use Rattle.bh_spec.specs.Bounds.{Bounds}
 use Rattle.bh_spec.specs.Items.{Item, Head, of_request, of_response, interim_response, head, content_byte, trailer_section}
-use Rattle.bh_fields.specs.Middle.{SectionView, Rest as section_rest}
 use Rattle.bh_push.specs.declared.decoder.Pushed.{Pushed}
 use Rattle.bh_push.specs.declared.decoder.Pushed.TheVariants as pushed
 use Rattle.bh_push.specs.Decoders.{At, in_framing, in_control, in_status, before_interim, in_interim, before_header, in_header, behind_head, in_length, in_content, behind_content, in_trailers, in_padding, IsBehindContent}
@@ -76,26 +75,6 @@ IsRightBehind (pushed.Head taken) w = (form : Form) × (w ≡ behind_head form)
 IsRightBehind (pushed.Content taken bytes) w = IsBehindContent w
 IsRightBehind (pushed.Trailers taken) w = w ≡ in_padding 0
 IsRightBehind (pushed.Refused r) w = Unit {0}
-
--- Nothing more would complete the section: it is whole.
-abbrev pub IsWhole : Bounds → SectionView → Type 0
-IsWhole L v = (fields : List Field) × section_rest L v fields []
-
--- No event stands at the place: no section is whole whose event is still to come. A byte of content is an item of its own.
-abbrev pub IsPrompt : Bounds → At → Type 0
-IsPrompt L (in_framing begun) = Unit {0}
-IsPrompt L (in_control form read) = Unit {0}
-IsPrompt L (in_status form before begun) = Unit {0}
-IsPrompt L (before_interim form before status) = Unit {0}
-IsPrompt L (in_interim form before status v) = IsWhole L v → ⊥
-IsPrompt L (before_header form of) = Unit {0}
-IsPrompt L (in_header form of v) = IsWhole L v → ⊥
-IsPrompt L (behind_head form) = Unit {0}
-IsPrompt L (in_length form begun) = Unit {0}
-IsPrompt L (in_content form missing) = Unit {0}
-IsPrompt L (behind_content form) = Unit {0}
-IsPrompt L (in_trailers form v) = IsWhole L v → ⊥
-IsPrompt L (in_padding before) = Unit {0}
 
 -- ---- what is read off a decoder
 

@@ -11,6 +11,7 @@ use Rattle.bh_spec.specs.Answers.{whole, refused, IsAnswer}
 use Rattle.bh_spec.specs.Items.{Item, ending, items}
 use Rattle.bh_spec.specs.Runs.{Takes, Call, bytes_taken, items_yielded, state_behind, AreTaken, Any}
 use Rattle.bh_push.specs.Decoders.{At, Rest, in_framing}
+use Rattle.bh_push.specs.Standing.{IsPrompt}
 
 -- a decoder: its limits, where it stands, the bytes since the start, and a refusal that was given since
 pub record DecoderView : Type 0 where
@@ -41,10 +42,12 @@ pub record Took (v : DecoderView) (piece : List ℕ) (count : ℕ) (yields : Lis
   pub taken : w.taken ≡ v.taken + count
   pub refusal : w.refusal ≡ None
 
--- Where a byte of a piece is refused: the bytes before it were taken, yield nothing and lead there, and nothing has the byte there.
+-- Where a byte of a piece is refused: the bytes before it were taken, yield nothing and lead there, no event stands there, and nothing
+-- has the byte there.
 pub record RefusesBehind (v : DecoderView) (piece : List ℕ) (offset : ℕ) : Type 0 where
   pub at : At
   pub takes : Takes Rest v.limits v.at piece offset [] at
+  pub prompt : IsPrompt v.limits at
   pub none : CanBecome (Any Rest v.limits at) (take 1 (drop offset piece)) → ⊥
 
 -- A refusal of a piece where none was given: of a byte of it, within the limit of the input; or of what is longer than that. It
@@ -55,7 +58,7 @@ RefusesFirst v piece (Dead at part) = (offset : ℕ) × (at ≡ v.taken + offset
 RefusesFirst v piece (Limit at part) = (offset : ℕ) × (at ≡ v.taken + offset) × IsWithin v.limits.input (v.taken + offset + 1)
     × IsLimit (Any Rest v.limits v.at) (Any Rest no_bounds v.at) [] piece offset part × RefusesBehind v piece offset
 RefusesFirst v piece (TooLong at) = (offset : ℕ) × (at ≡ v.taken + offset) × (v.limits.input ≡ Some at) × (offset < length piece)
-    × ((w : At) × Takes Rest v.limits v.at piece offset [] w)
+    × ((w : At) × Takes Rest v.limits v.at piece offset [] w × IsPrompt v.limits w)
 RefusesFirst v piece (Ended at part) = ⊥
 
 -- A piece is refused: once more, or for the first time.

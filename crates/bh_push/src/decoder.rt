@@ -6,7 +6,8 @@ ghost use Rattle.bh_model.specs.Values.{control_lent};
 ghost use Rattle.bh_push.specs.Decoders.{Rest};
 ghost use Rattle.bh_push.specs.Pushes.{Finishes, Fails};
 ghost use Rattle.bh_push.specs.Kinds.{IsSameKind};
-ghost use Rattle.bh_push.specs.Hands.{start_held, Hands, Keeps, IsRightBehind, IsPrompt, kind_at, status_shown, control_shown};
+ghost use Rattle.bh_push.specs.Hands.{start_held, Hands, Keeps, IsRightBehind, kind_at, status_shown, control_shown};
+ghost use Rattle.bh_push.specs.Standing.{IsPrompt};
 
 use crate::body::{Body, Phase};
 use crate::course::{Course, End, Stage, Walked};
