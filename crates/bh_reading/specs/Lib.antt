@@ -3,3 +3,4 @@ pub mod ContentLaws
 pub mod ReadingLaws
 pub mod Checks
 pub mod Coming
+pub mod Places

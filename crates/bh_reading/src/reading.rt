@@ -1,7 +1,10 @@
 //! The decoder of a call, with what is counted for the summary.
-ghost use Rattle.std.specs.Prelude.{◌≡◌, ◌+◌, IfOk, IfSome, length};
+ghost use Rattle.std.specs.Prelude.{◌≡◌, ◌+◌, IfOk, IfSome, None, length};
 ghost use Rattle.bh_push.specs.Hands.{kind_of_head};
-ghost use Rattle.bh_reading.specs.Readings.{IsAtStart, count};
+ghost use Rattle.bh_push.specs.Standing.{IsPrompt};
+ghost use Rattle.bh_stream.specs.Decoding.{IsPushed};
+ghost use Rattle.bh_reading.specs.Places.{IsRightBehind};
+ghost use Rattle.bh_reading.specs.Readings.{IsAtStart, IsReady, Moved, count, limits, shows, refuses};
 
 use bh_base::NoMemory;
 use bh_model::{Kind, Limits, Refusal, Summary};
@@ -48,6 +51,41 @@ impl Reading {
         self.decoder.begin();
         self.lines = 0;
         self.content = 0;
+    }
+
+    /// Decodes some bytes of the piece, and says where it then stands: an event comes with its last byte, and none stands where nothing
+    /// was handed out.
+    pub fn read<'p>(&mut self, piece: &'p [u8]) -> Pushed<'p, Refusal>
+        requires ready { IsReady self.old }
+        ensures pushed { IsPushed Moved shows refuses self.old piece.now result self.new }
+        ensures limits { limits self.new ≡ limits self.old }
+        ensures right { IsRightBehind result self.new.held.decoder.at }
+        ensures prompt { self.new.held.decoder.refusal ≡ None → IsPrompt (limits self.new) self.new.held.decoder.at }
+    {
+        match self.decoder.push(piece) {
+            Handed::Need => Pushed::Need,
+            Handed::Interim { taken, status } => {
+                self.lines = count_more(self.lines, lines_shown(&self.decoder));
+                let event = Event::Interim { status };
+                Pushed::Whole { taken, event }
+            }
+            Handed::Head { taken } => {
+                self.kind = kind_shown(&self.decoder);
+                self.lines = count_more(self.lines, lines_shown(&self.decoder));
+                let event = Event::Head;
+                Pushed::Whole { taken, event }
+            }
+            Handed::Content { taken, bytes } => {
+                self.content = count_more(self.content, bytes.len());
+                Pushed::Content { taken, bytes }
+            }
+            Handed::Trailers { taken } => {
+                self.lines = count_more(self.lines, lines_shown(&self.decoder));
+                let event = Event::Trailers;
+                Pushed::Whole { taken, event }
+            }
+            Handed::Refused(refusal) => Pushed::Refused(refusal),
+        }
     }
 
     /// The decoder, which shows what was handed out last.
@@ -109,30 +147,7 @@ impl Decode for Reading {
     ghost misses = { misses };
 
     fn push<'p>(&mut self, piece: &'p [u8]) -> Pushed<'p, Refusal> {
-        match self.decoder.push(piece) {
-            Handed::Need => Pushed::Need,
-            Handed::Interim { taken, status } => {
-                self.lines = count_more(self.lines, lines_shown(&self.decoder));
-                let event = Event::Interim { status };
-                Pushed::Whole { taken, event }
-            }
-            Handed::Head { taken } => {
-                self.kind = kind_shown(&self.decoder);
-                self.lines = count_more(self.lines, lines_shown(&self.decoder));
-                let event = Event::Head;
-                Pushed::Whole { taken, event }
-            }
-            Handed::Content { taken, bytes } => {
-                self.content = count_more(self.content, bytes.len());
-                Pushed::Content { taken, bytes }
-            }
-            Handed::Trailers { taken } => {
-                self.lines = count_more(self.lines, lines_shown(&self.decoder));
-                let event = Event::Trailers;
-                Pushed::Whole { taken, event }
-            }
-            Handed::Refused(refusal) => Pushed::Refused(refusal),
-        }
+        self.read(piece)
     }
 
     fn finish(&mut self) -> Result<Summary, Refusal> {

@@ -2,7 +2,7 @@ use Rattle.std.proofs.Common.{◌≤◌, [], length, sym, subst}
 use Rattle.bh_stream.specs.declared.traits.Event.TheVariants as events
 use Rattle.bh_reading.specs.Readings.{Counted, Moved, IsReady, refuses}
 use Rattle.bh_reading.proofs.ReadingOn.{EventOn, ContentOn, need_on, interim_on, head_on, trailers_on, content_on, few_bytes, refused_first}
-use Rattle.bh_reading.proofs.reading.ReadingDecode.push.Goals as goal
+use Rattle.bh_reading.proofs.reading.Reading.read.Goals as goal
 
 pub returns-in-Need-clause-pushed : goal.returns-in-Need-clause-pushed
 returns-in-Need-clause-pushed c =
