@@ -3,6 +3,7 @@ pub mod Fronts
 pub mod Logging
 pub mod ReadLaws
 pub mod Moving
+pub mod Passings
 pub mod Parts
 pub mod Turns
 pub mod Closing
