@@ -9,7 +9,7 @@ pub mod Turns
 pub mod Closing
 pub mod LogLaws
 pub mod SameMarks
-pub mod Messages
 pub mod Formats
+pub mod Messages
 pub mod Calls
 pub mod Silent

@@ -9,7 +9,7 @@ use Rattle.bh_spec.specs.Items.{Item, ending}
 use Rattle.bh_spec.proofs.Marks.{bytes_of-append, content-append}
 use Rattle.bh_stream.specs.Outputs.{Output, written, shown_in}
 use Rattle.bh_stream.specs.Logs.{Begins, IsLongest, HasBody, IsClose, GivesFront}
-use Rattle.bh_stream.specs.Decoding.{content_items, Rest, Moving, Coming, IsAlive, IsSilent, Passing, DecoderLaws}
+use Rattle.bh_stream.specs.Decoding.{content_items, Rest, Moving, Coming, IsSilent, Passing, DecoderLaws}
 use Rattle.bh_stream.specs.Jobs.{Owing}
 use Rattle.bh_stream.specs.Points.{Point, LastPoint, EachPoint}
 use Rattle.bh_stream.proofs.Outputs.{begins_written}

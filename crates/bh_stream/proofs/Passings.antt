@@ -1,13 +1,13 @@
 -- How bytes led on: quietly, or by a state from which something completes the message.
 use Rattle.std.proofs.Common.{◌≡◌, ◌≤◌, ◌⊎◌, ℕ, List, [], ◌∷◌, ◌++◌, length, take, refl, sym, ◌∙◌, ap, subst, arith, append_assoc, append-nil, length-append, inl, inr}
 use Rattle.std.proofs.lemmas.List.{append_cancel_left}
-use Rattle.bh_spec.specs.Texts.{Text, bytes_of, content_in}
+use Rattle.bh_spec.specs.Texts.{bytes_of, content_in}
 use Rattle.bh_spec.specs.Residuals.{IsResidual}
 use Rattle.bh_spec.specs.Items.{Item}
 use Rattle.bh_spec.proofs.Marks.{bytes_of-append, content-append}
 use Rattle.bh_spec.proofs.Residuals.{residual_here}
-use Rattle.bh_stream.specs.Decoding.{content_items, Rest, Moving, IsAlive, IsSilent, Leads, DecoderLaws, Quietly, Lively, Passing, Took}
-use Rattle.bh_stream.proofs.Moving.{few_items, front_of_two, bytes-length, content-few, shorter}
+use Rattle.bh_stream.specs.Decoding.{content_items, Rest, Moving, IsAlive, IsSilent, DecoderLaws, Quietly, Passing, Took}
+use Rattle.bh_stream.proofs.Moving.{few_items, front_of_two, bytes-length, shorter}
 
 -- no bytes
 pub silent_none : {V : Type 0} (rest : Rest V) (v : V) → IsSilent rest v []
