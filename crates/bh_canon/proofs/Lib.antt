@@ -7,4 +7,4 @@ pub mod Calls
 pub mod Exactly
 pub mod Equal
 pub mod Back
-pub mod Memory
+pub mod Holding

@@ -125,10 +125,10 @@ impl Engine {
         ensures bytes { bytes_held result ≤ 4 * unwrap_or self.now.part 0 + unwrap_or self.now.section 0 + 16384 }
         ensures numbers { numbers_held result ≤ 2 * (unwrap_or self.now.section 0 / 3 + 1) }
     {
-        let decoder = self.reading.decoder();
+        let shown = self.reading.decoder();
         Memory {
-            control: decoder.strings(),
-            fields: decoder.fields(),
+            control: shown.strings(),
+            fields: shown.fields(),
             chunk: self.canonical.chunk(),
             line: self.listing.waiting(),
             buffer: self.buffer.as_slice(),
