@@ -103,12 +103,16 @@ name_begun p n bytes fields z h some one s =
 
 -- ---- the bytes of a name
 
--- the lines with a byte more of the name that is being made
-pub record IsNamedOn (byte : ℕ) (old new : FieldsView) : Type 0 where
+-- the lines with so many bytes more of the one that is being made
+pub record IsGrownBy (grow : Field → Field) (bytes : ℕ) (old new : FieldsView) : Type 0 where
   pub lines : new.lines ≡ old.lines
-  pub making : new.making ≡ option_map (name_grown byte) old.making
-  pub spare : new.spare + 1 ≡ old.spare
+  pub making : new.making ≡ option_map grow old.making
+  pub spare : new.spare + bytes ≡ old.spare
   pub free : new.free ≡ old.free
+
+-- with a byte more of its name
+abbrev pub IsNamedOn : ℕ → FieldsView → FieldsView → Type 0
+IsNamedOn byte old new = IsGrownBy (name_grown byte) 1 old new
 
 making_name : (byte : ℕ) (name : List ℕ) (old new : FieldsView) → old.making ≡ making_of name [] → IsNamedOn byte old new → new.making ≡ making_of (name ++ to_ascii_lowercase byte ∷ []) []
 making_name byte name old new e s = s.making ∙ ap (option_map (name_grown byte)) e
@@ -288,11 +292,8 @@ value_begins p n z h some = (
 )
 
 -- the lines with a byte more of the value that is being made
-pub record IsValuedOn (byte : ℕ) (old new : FieldsView) : Type 0 where
-  pub lines : new.lines ≡ old.lines
-  pub making : new.making ≡ option_map (value_grown byte) old.making
-  pub spare : new.spare + 1 ≡ old.spare
-  pub free : new.free ≡ old.free
+abbrev pub IsValuedOn : ℕ → FieldsView → FieldsView → Type 0
+IsValuedOn byte old new = IsGrownBy (value_grown byte) 1 old new
 
 -- the point behind a byte of a value
 abbrev pub valued_point : FieldsView → Point → Point

@@ -1,7 +1,7 @@
 //! What a byte makes of a section.
 ghost use Rattle.std.specs.Prelude.{◌≡◌, ℕ, true, false, ◌<◌, ◌≤◌, ◌↔◌, List, ◌++◌, ◌∷◌, [], All, length, take, IsTrue};
 ghost use Rattle.std.specs.Char.{to_ascii_lowercase};
-ghost use Rattle.bh_spec.specs.Bytes.{lower, is_value};
+ghost use Rattle.bh_spec.specs.Bytes.{lower, is_token, is_value};
 ghost use Rattle.bh_spec.specs.Messages.{IsControlName};
 ghost use Rattle.bh_fields.specs.Names.{NameTakes, IsValueByte, flag_behind};
 ghost use Rattle.bh_fields.specs.Sets.{free_room};
@@ -80,19 +80,46 @@ fn value_front(bytes: &[u8], missing: u64) -> &[u8]
     ensures fewer { length result.now < missing }
     ensures each { All (λ byte. IsTrue (is_value byte)) result.now }
 {
-    let inner = first_of(bytes, missing - 1);
+    let inner = fewer_of(bytes, missing);
     match inner.iter().position(|&byte| !bh_base::is_value(byte)) {
         Some(at) => front_of(inner, at),
         None => inner,
     }
 }
 
-/// The first bytes, at most so many.
-fn first_of(bytes: &[u8], most: u64) -> &[u8]
+/// The token bytes at the front, fewer than are missing.
+fn name_front(bytes: &[u8], missing: u64) -> &[u8]
+    requires { 0 < missing }
     ensures front { result.now ≡ take (length result.now) bytes.now }
-    ensures most { length result.now ≤ most }
+    ensures fewer { length result.now < missing }
+    ensures each { All (λ byte. IsTrue (is_token byte)) result.now }
 {
-    front_of(bytes, most.min(bytes.len() as u64) as usize)
+    let inner = fewer_of(bytes, missing);
+    front_of(inner, token_count(inner))
+}
+
+/// How many bytes of a token stand at the front.
+fn token_count(bytes: &[u8]) -> usize
+    ensures within { result ≤ length bytes.now }
+    ensures each { All (λ byte. IsTrue (is_token byte)) (take result bytes.now) }
+{
+    let mut count = 0;
+    while count < bytes.len() {
+        if !bh_base::is_token(bytes[count]) {
+            return count;
+        }
+        count += 1;
+    }
+    count
+}
+
+/// The bytes at the front, fewer than are missing.
+fn fewer_of(bytes: &[u8], missing: u64) -> &[u8]
+    requires { 0 < missing }
+    ensures front { result.now ≡ take (length result.now) bytes.now }
+    ensures fewer { length result.now < missing }
+{
+    front_of(bytes, (missing - 1).min(bytes.len() as u64) as usize)
 }
 
 /// The first `count` bytes.
@@ -131,7 +158,7 @@ impl Walk {
         }
     }
 
-    /// Takes the bytes at the front that stand inside a value, neither its first nor its last, and says how many there are.
+    /// Takes the bytes at the front that stand inside a name or a value, neither its first nor its last, and says how many there are.
     pub fn take_inner(&mut self, bytes: &[u8]) -> usize
         requires sized { IsSized (point_of self.old) }
         requires reading { ReadingAt self.old.phase (point_of self.old) }
@@ -139,6 +166,7 @@ impl Walk {
         ensures run { IsRun self.old.phase (point_of self.old) (take result bytes.now) self.new.phase (point_of self.new) }
     {
         match self.phase {
+            Phase::Name { missing } => self.take_names(bytes, missing),
             Phase::Value { missing, first } => {
                 if first {
                     return 0;
@@ -147,6 +175,25 @@ impl Walk {
             }
             _ => 0,
         }
+    }
+
+    /// Takes the bytes at the front that stand inside a name of which so many bytes are missing, but no first byte.
+    fn take_names(&mut self, bytes: &[u8], missing: u64) -> usize
+        requires phase { self.old.phase ≡ Phase.Name missing }
+        requires sized { IsSized (point_of self.old) }
+        requires state { NameState (point_of self.old) missing }
+        ensures within { result ≤ length bytes.now }
+        ensures run { IsRun (Phase.Name missing) (point_of self.old) (take result bytes.now) self.new.phase (point_of self.new) }
+    {
+        if self.fields.begun_name().is_empty() {
+            return 0;
+        }
+        let inner = name_front(bytes, missing);
+        self.fields.put_names(inner);
+        self.phase = Phase::Name {
+            missing: missing - inner.len() as u64,
+        };
+        inner.len()
     }
 
     /// Takes the bytes at the front that stand inside a value of which so many bytes are missing.
