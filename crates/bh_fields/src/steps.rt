@@ -9,11 +9,11 @@ ghost use Rattle.bh_fields.specs.Points.{Point, point_of, RestOf, LinesAt, Named
 ghost use Rattle.bh_fields.specs.Stepping.{Moves, IsStep, IsRun};
 ghost use Rattle.bh_fields.specs.States.{IsFull, LengthState, NextState, LineState, NamedState, NameState, ValueLengthState, InValue, ValueState, ReadingAt};
 
-use crate::sets::{Read, judge, length_set, name_set, value_set};
+use crate::sets::{judge, length_set, name_set, refusal, value_set};
 use crate::walk::{Phase, Walk};
 use bh_model::Form;
 use bh_spec::Judged;
-use bh_varint::GREATEST;
+use bh_varint::{GREATEST, Step};
 
 /// Whether the name is one of control data with the byte behind it, in any case of letters (RFC 9113, section 8.3). Each
 /// of the five ends by another letter.
@@ -220,15 +220,16 @@ impl Walk {
         ensures { IsStep result Phase.SectionLength (point_of self.old) byte self.new.phase (point_of self.new) }
     {
         let within = length_set(self.limits.section());
-        let free = length_set(GREATEST);
-        match judge(&mut self.number, byte, &within, &free) {
-            Read::More => Judged::More,
-            Read::Value { value, width: _ } => {
+        match judge(&mut self.number, byte, &within) {
+            Step::More => Judged::More,
+            Step::Value { value, width: _ } => {
                 self.total = value;
                 self.next_line()
             }
-            Read::Limit => Judged::Limit,
-            Read::Dead => Judged::Dead,
+            Step::Dead => {
+                let free = length_set(GREATEST);
+                refusal(&self.number, byte, &free)
+            }
         }
     }
 
@@ -241,12 +242,13 @@ impl Walk {
     {
         let room = self.total - self.used;
         let within = name_set(self.form, self.limits.part(), Some(room));
-        let free = name_set(self.form, GREATEST, room_without_limits(self.form, room));
-        match judge(&mut self.number, byte, &within, &free) {
-            Read::More => Judged::More,
-            Read::Value { value, width } => { self.begin_name(value, width.bytes() as u64) }
-            Read::Limit => Judged::Limit,
-            Read::Dead => Judged::Dead,
+        match judge(&mut self.number, byte, &within) {
+            Step::More => Judged::More,
+            Step::Value { value, width } => { self.begin_name(value, width.bytes() as u64) }
+            Step::Dead => {
+                let free = name_set(self.form, GREATEST, room_without_limits(self.form, room));
+                refusal(&self.number, byte, &free)
+            }
         }
     }
 
@@ -298,15 +300,16 @@ impl Walk {
     {
         let room = self.total - self.used;
         let within = value_set(self.form, self.limits.part(), Some(room));
-        let free = value_set(self.form, GREATEST, room_without_limits(self.form, room));
-        match judge(&mut self.number, byte, &within, &free) {
-            Read::More => Judged::More,
-            Read::Value { value, width } => {
+        match judge(&mut self.number, byte, &within) {
+            Step::More => Judged::More,
+            Step::Value { value, width } => {
                 self.used += width.bytes() as u64 + value;
                 self.begin_value(value)
             }
-            Read::Limit => Judged::Limit,
-            Read::Dead => Judged::Dead,
+            Step::Dead => {
+                let free = value_set(self.form, GREATEST, room_without_limits(self.form, room));
+                refusal(&self.number, byte, &free)
+            }
         }
     }
 
