@@ -10,7 +10,7 @@ use Rattle.bh_spec.specs.Bytes.{is_token, is_value, lower}
 use Rattle.bh_spec.specs.Messages.{Field}
 use Rattle.bh_spec.specs.Readings.{reading}
 use Rattle.bh_spec.proofs.Residuals.{residual_here, residual_on}
-use Rattle.bh_model.specs.Lines.{FieldsView, name_grown, value_grown}
+use Rattle.bh_model.specs.Lines.{FieldsView, name_grown_by, value_grown_by}
 use Rattle.bh_spec.specs.declared.Judged.TheVariants as judged
 use Rattle.bh_fields.specs.declared.walk.Phase.{Phase}
 use Rattle.bh_fields.specs.declared.walk.Phase.TheVariants as phases
@@ -75,33 +75,33 @@ begun_by f front e some name g =
     let same : front ≡ name = cc in
     subst (λ (x : List ℕ). 0 < length x) same some
 
-begun_on : (name : List ℕ) (byte : ℕ) (old : FieldsView) → old.making ≡ making_of name [] → IsBegun (grown (name_grown (byte ∷ [])) old)
+begun_on : (name : List ℕ) (byte : ℕ) (old : FieldsView) → old.making ≡ making_of name [] → IsBegun (grown (name_grown_by (byte ∷ [])) old)
 begun_on name byte old e =
-    begun_by (grown (name_grown (byte ∷ [])) old) (name ++ to_ascii_lowercase byte ∷ [])
-    (ap (λ (o : Option Field). option_map (λ (line : Field). line.name) (option_map (name_grown (byte ∷ [])) o)) e)
+    begun_by (grown (name_grown_by (byte ∷ [])) old) (name ++ to_ascii_lowercase byte ∷ [])
+    (ap (λ (o : Option Field). option_map (λ (line : Field). line.name) (option_map (name_grown_by (byte ∷ [])) o)) e)
     (omega (arith, length-append name (to_ascii_lowercase byte ∷ [])))
 
 -- token bytes behind a name's first byte, fewer than are missing, are steps that go on
 pub name_run : (bytes : List ℕ) (p : Point) (missing : ℕ) (fields : FieldsView) → IsSized p → NameState p missing → IsBegun p.fields → All (λ byte. IsTrue (is_token byte)) bytes
-    → length bytes < missing → IsGrownBy (name_grown bytes) (length bytes) p.fields fields → IsRun (phases.Name missing) p bytes (phases.Name (missing - length bytes)) (with_lines fields p)
+    → length bytes < missing → IsGrownBy (name_grown_by bytes) (length bytes) p.fields fields → IsRun (phases.Name missing) p bytes (phases.Name (missing - length bytes)) (with_lines fields p)
 name_run [] p missing fields z h begun each few s =
     (ap (λ (m : ℕ). phases.Name m) (let e : missing - length {A = ℕ} [] ≡ missing = omega arith in e),
-      ap (λ (f : FieldsView). with_lines f p) (grown_none (name_grown []) p.fields fields (λ line. ap (λ (n : List ℕ). line_of n line.value) (append-nil line.name)) s))
+      ap (λ (f : FieldsView). with_lines f p) (grown_none (name_grown_by []) p.fields fields (λ line. ap (λ (n : List ℕ). line_of n line.value) (append-nil line.name)) s))
 name_run (byte ∷ rest) p missing fields z h begun each few s =
-    let next : FieldsView = grown (name_grown (byte ∷ [])) p.fields in
+    let next : FieldsView = grown (name_grown_by (byte ∷ [])) p.fields in
     let q : Point = with_lines next p in
     let token : IsTrue (is_token byte) = All-head (λ (b : ℕ). IsTrue (is_token b)) byte rest each in
     let some : 0 < length h.name = begun h.name h.making in
     let more : 1 < missing = omega (arith, few) in
     let step : IsStep judged.More (phases.Name missing) p byte (phases.Name (missing - 1)) q =
     name_step p missing byte p.flag next (token_is_byte byte token) z h more (inner_takes p.flag h.name missing byte some more token) (inner_flag p.flag h.name byte some)
-    (grown_on (name_grown (byte ∷ [])) p.fields (omega (arith, s.spare))) in
+    (grown_on (name_grown_by (byte ∷ [])) p.fields (omega (arith, s.spare))) in
     let left : missing - 1 - length rest ≡ missing - length (byte ∷ rest) = omega arith in (
       (phases.Name (missing - 1), q),
       step,
       subst (λ (m : ℕ). IsRun (phases.Name (missing - 1)) q rest (phases.Name m) (with_lines fields p)) left
           (name_run rest q (missing - 1) fields step.0 step.1 (begun_on h.name byte p.fields h.making) (All-tail (λ (b : ℕ). IsTrue (is_token b)) byte rest each) (omega (arith, few))
-          (grown_rest (name_grown (byte ∷ rest)) (name_grown (byte ∷ [])) (name_grown rest) (length rest) p.fields fields
+          (grown_rest (name_grown_by (byte ∷ rest)) (name_grown_by (byte ∷ [])) (name_grown_by rest) (length rest) p.fields fields
           (λ line. ap (λ (n : List ℕ). line_of n line.value) (sym (append_assoc line.name (to_ascii_lowercase byte ∷ []) (lower rest)))) s)),
     )
 
@@ -109,12 +109,12 @@ name_run (byte ∷ rest) p missing fields z h begun each few s =
 
 -- value bytes, fewer than are missing, are steps that go on
 pub value_run : (bytes : List ℕ) (p : Point) (missing : ℕ) (fields : FieldsView) → IsSized p → ValueState p missing false → All (λ byte. IsTrue (is_value byte)) bytes
-    → length bytes < missing → IsGrownBy (value_grown bytes) (length bytes) p.fields fields → IsRun (phases.Value missing false) p bytes (phases.Value (missing - length bytes) false) (valued_point fields p)
+    → length bytes < missing → IsGrownBy (value_grown_by bytes) (length bytes) p.fields fields → IsRun (phases.Value missing false) p bytes (phases.Value (missing - length bytes) false) (valued_point fields p)
 value_run [] p missing fields z h each few s =
-    (ap (λ (m : ℕ). phases.Value m false) (let e : missing - length {A = ℕ} [] ≡ missing = omega arith in e), ap (λ (f : FieldsView). valued_point f p) (grown_none (value_grown []) p.fields fields (λ line. ap (λ (v : List ℕ). line_of line.name v) (append-nil line.value)) s))
+    (ap (λ (m : ℕ). phases.Value m false) (let e : missing - length {A = ℕ} [] ≡ missing = omega arith in e), ap (λ (f : FieldsView). valued_point f p) (grown_none (value_grown_by []) p.fields fields (λ line. ap (λ (v : List ℕ). line_of line.name v) (append-nil line.value)) s))
 value_run (byte ∷ rest) p missing fields z h each few s =
-    let next : FieldsView = grown (value_grown (byte ∷ [])) p.fields in
-    let on : IsValuedOn byte p.fields next = grown_on (value_grown (byte ∷ [])) p.fields (omega (arith, s.spare)) in
+    let next : FieldsView = grown (value_grown_by (byte ∷ [])) p.fields in
+    let on : IsValuedOn byte p.fields next = grown_on (value_grown_by (byte ∷ [])) p.fields (omega (arith, s.spare)) in
     let q : Point = valued_point next p in
     let takes : ValueTakes h.value missing byte = record {
       is = All-head (λ (b : ℕ). IsTrue (is_value b)) byte rest each;
@@ -133,7 +133,7 @@ value_run (byte ∷ rest) p missing fields z h each few s =
       (sized, state, record { limits = refl; form = refl; place = refl }, value_steps p h.value missing byte false false next h.inside h.some on),
       subst (λ (m : ℕ). IsRun (phases.Value (missing - 1) false) q rest (phases.Value m false) (valued_point fields p)) left
           (value_run rest q (missing - 1) fields sized state (All-tail (λ (b : ℕ). IsTrue (is_value b)) byte rest each) (omega (arith, few)) 
-          (grown_rest (value_grown (byte ∷ rest)) (value_grown (byte ∷ [])) (value_grown rest) (length rest) p.fields fields
+          (grown_rest (value_grown_by (byte ∷ rest)) (value_grown_by (byte ∷ [])) (value_grown_by rest) (length rest) p.fields fields
           (λ line. ap (λ (v : List ℕ). line_of line.name v) (sym (append_assoc line.value (byte ∷ []) rest))) s)),
     )
 

@@ -189,7 +189,7 @@ impl Walk {
             return 0;
         }
         let inner = name_front(bytes, missing);
-        self.fields.put_name(inner);
+        self.fields.put_names(inner);
         self.phase = Phase::Name {
             missing: missing - inner.len() as u64,
         };
@@ -204,7 +204,7 @@ impl Walk {
         ensures run { IsRun (Phase.Value missing false) (point_of self.old) (take result bytes.now) self.new.phase (point_of self.new) }
     {
         let inner = value_front(bytes, missing);
-        self.fields.put_value(inner);
+        self.fields.put_values(inner);
         self.phase = Phase::Value {
             missing: missing - inner.len() as u64,
             first: false,
@@ -280,7 +280,7 @@ impl Walk {
             return Judged::Dead;
         }
         self.may_be_pseudo = is_pseudo_with(front, byte, self.may_be_pseudo);
-        self.fields.put_name(&[byte]);
+        self.fields.put_names(&[byte]);
         if missing > 1 {
             self.phase = Phase::Name {
                 missing: missing - 1,
@@ -338,7 +338,7 @@ impl Walk {
         if !is_value_byte(byte, missing, first) {
             return Judged::Dead;
         }
-        self.fields.put_value(&[byte]);
+        self.fields.put_values(&[byte]);
         if missing == 1 {
             return self.end_line();
         }

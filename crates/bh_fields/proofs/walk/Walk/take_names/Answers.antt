@@ -14,9 +14,9 @@ nonempty (x ∷ xs) e = omega arith
 pub returns-clause-run : goal.returns-clause-run
 returns-clause-run c =
     let p : Point = point_of c.args.self.now in
-    let e = c.put_name.ensures in
+    let e = c.put_names.ensures in
     let inner = c.name_front-inner.result.now in
     let f = c.name_front-inner.ensures in
-    subst (λ (xs : List ℕ). IsRun (phases.Name c.args.missing) p xs (phases.Name (c.args.missing - length inner)) (with_lines c.put_name.new.self p)) f.front
-    (name_run inner p c.args.missing c.put_name.new.self c.requires.sized c.requires.state
+    subst (λ (xs : List ℕ). IsRun (phases.Name c.args.missing) p xs (phases.Name (c.args.missing - length inner)) (with_lines c.put_names.new.self p)) f.front
+    (name_run inner p c.args.missing c.put_names.new.self c.requires.sized c.requires.state
     (begun_by p.fields c.begun_name.result.now c.begun_name.ensures (nonempty c.begun_name.result.now (sym c.is_empty.ensures ∙ c.if-is_empty.false))) f.each f.fewer (record { lines = e.lines; making = e.making; spare = e.spare; free = e.free }))

@@ -9,8 +9,8 @@ use Rattle.bh_fields.proofs.walk.Walk.take_values.Goals as goal
 pub returns-clause-run : goal.returns-clause-run
 returns-clause-run c =
     let p : Point = point_of c.args.self.now in
-    let e = c.put_value.ensures in
+    let e = c.put_values.ensures in
     let inner = c.value_front-inner.result.now in
     let f = c.value_front-inner.ensures in
-    subst (λ (xs : List ℕ). IsRun (phases.Value c.args.missing false) p xs (phases.Value (c.args.missing - length inner) false) (valued_point c.put_value.new.self p)) f.front
-    (value_run inner p c.args.missing c.put_value.new.self c.requires.sized c.requires.state f.each f.fewer (record { lines = e.lines; making = e.making; spare = e.spare; free = e.free }))
+    subst (λ (xs : List ℕ). IsRun (phases.Value c.args.missing false) p xs (phases.Value (c.args.missing - length inner) false) (valued_point c.put_values.new.self p)) f.front
+    (value_run inner p c.args.missing c.put_values.new.self c.requires.sized c.requires.state f.each f.fewer (record { lines = e.lines; making = e.making; spare = e.spare; free = e.free }))
