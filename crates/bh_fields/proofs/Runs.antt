@@ -84,9 +84,10 @@ begun_on name byte old e =
 -- token bytes behind a name's first byte, fewer than are missing, are steps that go on
 pub name_run : (bytes : List ℕ) (p : Point) (missing : ℕ) (fields : FieldsView) → IsSized p → NameState p missing → IsBegun p.fields → All (λ byte. IsTrue (is_token byte)) bytes
     → length bytes < missing → IsGrownBy (name_grown_by bytes) (length bytes) p.fields fields → IsRun (phases.Name missing) p bytes (phases.Name (missing - length bytes)) (with_lines fields p)
-name_run [] p missing fields z h begun each few s =
-    (ap (λ (m : ℕ). phases.Name m) (let e : missing - length {A = ℕ} [] ≡ missing = omega arith in e),
-      ap (λ (f : FieldsView). with_lines f p) (grown_none (name_grown_by []) p.fields fields (λ line. ap (λ (n : List ℕ). line_of n line.value) (append-nil line.name)) s))
+name_run [] p missing fields z h begun each few s = (
+  ap (λ (m : ℕ). phases.Name m) (let e : missing - length {A = ℕ} [] ≡ missing = omega arith in e),
+  ap (λ (f : FieldsView). with_lines f p) (grown_none (name_grown_by []) p.fields fields (λ line. ap (λ (n : List ℕ). line_of n line.value) (append-nil line.name)) s),
+)
 name_run (byte ∷ rest) p missing fields z h begun each few s =
     let next : FieldsView = grown (name_grown_by (byte ∷ [])) p.fields in
     let q : Point = with_lines next p in
@@ -132,7 +133,7 @@ value_run (byte ∷ rest) p missing fields z h each few s =
       (phases.Value (missing - 1) false, q),
       (sized, state, record { limits = refl; form = refl; place = refl }, value_steps p h.value missing byte false false next h.inside h.some on),
       subst (λ (m : ℕ). IsRun (phases.Value (missing - 1) false) q rest (phases.Value m false) (valued_point fields p)) left
-          (value_run rest q (missing - 1) fields sized state (All-tail (λ (b : ℕ). IsTrue (is_value b)) byte rest each) (omega (arith, few)) 
+          (value_run rest q (missing - 1) fields sized state (All-tail (λ (b : ℕ). IsTrue (is_value b)) byte rest each) (omega (arith, few))
           (grown_rest (value_grown_by (byte ∷ rest)) (value_grown_by (byte ∷ [])) (value_grown_by rest) (length rest) p.fields fields
           (λ line. ap (λ (v : List ℕ). line_of line.name v) (sym (append_assoc line.value (byte ∷ []) rest))) s)),
     )
