@@ -12,3 +12,4 @@ pub mod Messages
 pub mod Formats
 pub mod Calls
 pub mod Silent
+pub mod Tails

@@ -7,3 +7,4 @@ pub mod Jobs
 pub mod Runs
 pub mod Formats
 pub mod Calls
+pub mod Tails
