@@ -14,3 +14,4 @@ pub mod Messages
 pub mod Calls
 pub mod Silent
 pub mod Telling
+pub mod Tails

@@ -9,3 +9,4 @@ pub mod Formats
 pub mod Messages
 pub mod Calls
 pub mod Telling
+pub mod Tails
