@@ -58,7 +58,7 @@ marks_framing v w x h = record { text = as_framing x; same = framing_bytes x; co
 pub marks_content : (v w : At) (x : List ℕ) → ((more : List ℕ) → marked v (x ++ more) ≡ as_content x ++ marked w more) → AreMarked v x x w
 marks_content v w x h = record { text = as_content x; same = content_bytes x; count = content_all x; on = h }
 
-count_on : (x : List ℕ) (m : ℕ) (more : List ℕ) → marked (in_count (length x + m)) (x ++ more) ≡ as_content x ++ marked (in_count m) more
+pub count_on : (x : List ℕ) (m : ℕ) (more : List ℕ) → marked (in_count (length x + m)) (x ++ more) ≡ as_content x ++ marked (in_count m) more
 count_on [] m more = let sum : 0 + m ≡ m = omega arith in ap (λ (n : ℕ). marked (in_count n) more) sum
 count_on (b ∷ x) m more =
     let sum : suc (length x) + m ≡ suc (length x + m) = omega arith in
@@ -67,7 +67,7 @@ count_on (b ∷ x) m more =
 pub count_marks : (x : List ℕ) (m : ℕ) → AreMarked (in_count (length x + m)) x x (in_count m)
 count_marks x m = marks_content (in_count (length x + m)) (in_count m) x (count_on x m)
 
-chunk_on : (x : List ℕ) (m : ℕ) (more : List ℕ) → marked (in_chunk (length x + m)) (x ++ more) ≡ as_content x ++ marked (in_chunk m) more
+pub chunk_on : (x : List ℕ) (m : ℕ) (more : List ℕ) → marked (in_chunk (length x + m)) (x ++ more) ≡ as_content x ++ marked (in_chunk m) more
 chunk_on [] m more = let sum : 0 + m ≡ m = omega arith in ap (λ (n : ℕ). marked (in_chunk n) more) sum
 chunk_on (b ∷ x) m more =
     let sum : suc (length x) + m ≡ suc (length x + m) = omega arith in
@@ -76,51 +76,58 @@ chunk_on (b ∷ x) m more =
 pub chunk_marks : (x : List ℕ) (m : ℕ) → AreMarked (in_chunk (length x + m)) x x (in_chunk m)
 chunk_marks x m = marks_content (in_chunk (length x + m)) (in_chunk m) x (chunk_on x m)
 
-end_on : (x more : List ℕ) → marked to_end (x ++ more) ≡ as_content x ++ marked to_end more
+pub end_on : (x more : List ℕ) → marked to_end (x ++ more) ≡ as_content x ++ marked to_end more
 end_on [] more = refl
 end_on (b ∷ x) more = ap (λ (t : Text). (parts.Content, b) ∷ t) (end_on x more)
 
 pub end_marks : (x : List ℕ) → AreMarked to_end x x to_end
 end_marks x = marks_content to_end to_end x (end_on x)
 
+pub over_on : (more : List ℕ) → marked (in_chunk 0) more ≡ marked behind_chunk more
+over_on [] = refl
+over_on (b ∷ more) = refl
+
 pub over_marks : AreMarked (in_chunk 0) [] [] behind_chunk
-over_marks = marks_framing (in_chunk 0) behind_chunk [] same
-  where
-    same : (more : List ℕ) → marked (in_chunk 0) more ≡ marked behind_chunk more
-    same [] = refl
-    same (b ∷ more) = refl
+over_marks = marks_framing (in_chunk 0) behind_chunk [] over_on
 
 pub cr_marks : AreMarked behind_chunk (13 ∷ []) [] behind_cr
 cr_marks = marks_framing behind_chunk behind_cr (13 ∷ []) (λ more. refl)
+
+-- the line end behind a chunk
+pub end_all : (more : List ℕ) → marked behind_chunk (13 ∷ 10 ∷ more) ≡ as_framing (13 ∷ 10 ∷ []) ++ marked (start Chunked) more
+end_all more = refl
+
+pub lf_all : (more : List ℕ) → marked behind_cr (10 ∷ more) ≡ as_framing (10 ∷ []) ++ marked (start Chunked) more
+lf_all more = refl
 
 pub lf_marks : AreMarked behind_cr (10 ∷ []) [] (start Chunked)
 lf_marks = marks_framing behind_cr (start Chunked) (10 ∷ []) (λ more. refl)
 
 -- one byte of a chunk line
+pub line_on : (s : InLine) (b : ℕ) (t : InLine) (room : ℕ) → next_state 15 s b ≡ Some t → (more : List ℕ) → marked (in_line s (suc room)) (b ∷ more) ≡ as_framing (b ∷ []) ++ marked (in_line t room) more
+line_on (in_digits count number) b t room e more = ap (λ (o : Option InLine). (parts.Framing, b) ∷ marked (in_line_behind o room) more) e
+line_on (in_blanks size) b t room e more = ap (λ (o : Option InLine). (parts.Framing, b) ∷ marked (in_line_behind o room) more) e
+line_on (in_extension size) b t room e more = ap (λ (o : Option InLine). (parts.Framing, b) ∷ marked (in_line_behind o room) more) e
+line_on (cr_in_line size) b t room e more = ap (λ (o : Option InLine). (parts.Framing, b) ∷ marked (in_line_behind o room) more) e
+line_on (line_ended size) b t room e more = absurd (cc)
+
 pub line_marks : (s : InLine) (b : ℕ) (t : InLine) (room : ℕ) → next_state 15 s b ≡ Some t → AreMarked (in_line s (suc room)) (b ∷ []) [] (in_line t room)
-line_marks s b t room e = marks_framing (in_line s (suc room)) (in_line t room) (b ∷ []) (λ more. by_state s e more)
-  where
-    by_state : (s : InLine) → next_state 15 s b ≡ Some t → (more : List ℕ) → marked (in_line s (suc room)) (b ∷ more) ≡ (parts.Framing, b) ∷ marked (in_line t room) more
-    by_state (in_digits count number) e more = ap (λ (o : Option InLine). (parts.Framing, b) ∷ marked (in_line_behind o room) more) e
-    by_state (in_blanks size) e more = ap (λ (o : Option InLine). (parts.Framing, b) ∷ marked (in_line_behind o room) more) e
-    by_state (in_extension size) e more = ap (λ (o : Option InLine). (parts.Framing, b) ∷ marked (in_line_behind o room) more) e
-    by_state (cr_in_line size) e more = ap (λ (o : Option InLine). (parts.Framing, b) ∷ marked (in_line_behind o room) more) e
-    by_state (line_ended size) e more = absurd (cc)
+line_marks s b t room e = marks_framing (in_line s (suc room)) (in_line t room) (b ∷ []) (line_on s b t room e)
 
 -- and its end
+pub line_over_on : (room : ℕ) (more : List ℕ) → marked (in_line (line_ended zero) room) more ≡ marked (in_trailers []) more
+line_over_on room [] = refl
+line_over_on room (b ∷ more) = refl
+
 pub line_over_marks : (room : ℕ) → AreMarked (in_line (line_ended zero) room) [] [] (in_trailers [])
-line_over_marks room = marks_framing (in_line (line_ended zero) room) (in_trailers []) [] same
-  where
-    same : (more : List ℕ) → marked (in_line (line_ended zero) room) more ≡ marked (in_trailers []) more
-    same [] = refl
-    same (b ∷ more) = refl
+line_over_marks room = marks_framing (in_line (line_ended zero) room) (in_trailers []) [] (line_over_on room)
+
+pub chunk_begins_on : (size room : ℕ) (more : List ℕ) → marked (in_line (line_ended (suc size)) room) more ≡ marked (in_chunk (suc size)) more
+chunk_begins_on size room [] = refl
+chunk_begins_on size room (b ∷ more) = refl
 
 pub chunk_begins_marks : (size room : ℕ) → AreMarked (in_line (line_ended (suc size)) room) [] [] (in_chunk (suc size))
-chunk_begins_marks size room = marks_framing (in_line (line_ended (suc size)) room) (in_chunk (suc size)) [] same
-  where
-    same : (more : List ℕ) → marked (in_line (line_ended (suc size)) room) more ≡ marked (in_chunk (suc size)) more
-    same [] = refl
-    same (b ∷ more) = refl
+chunk_begins_marks size room = marks_framing (in_line (line_ended (suc size)) room) (in_chunk (suc size)) [] (chunk_begins_on size room)
 
 -- behind the content
 pub over_all : (found : List Field) (x : List ℕ) → marked (over found) x ≡ as_framing x
@@ -131,7 +138,7 @@ pub trailers_all : (seen x : List ℕ) → marked (in_trailers seen) x ≡ as_fr
 trailers_all seen [] = refl
 trailers_all seen (b ∷ x) = ap (λ (t : Text). (parts.Framing, b) ∷ t) (over_all [] x)
 
-framing-append : (x y : List ℕ) → as_framing (x ++ y) ≡ as_framing x ++ as_framing y
+pub framing-append : (x y : List ℕ) → as_framing (x ++ y) ≡ as_framing x ++ as_framing y
 framing-append [] y = refl
 framing-append (b ∷ x) y = ap (λ (t : Text). (parts.Framing, b) ∷ t) (framing-append x y)
 

@@ -38,3 +38,4 @@ pub mod Translated
 pub mod Worked
 pub mod BodyFronts
 pub mod Marking
+pub mod MarkedBodies
