@@ -42,14 +42,14 @@ pub data Place : Type 0 where
 -- ---- bodies
 
 -- What stands behind the content: a trailer section where the body has chunks, and else none, which is left out.
+abbrev pub end_by : Framing1 → List (List ℕ) → List Field → List Item
+end_by Chunked named trailers = trailer_section (clean_trailers named trailers) ∷ ending Nothing 0 ∷ []
+end_by Empty named trailers = ending Trailers 0 ∷ []
+end_by (Counted n) named trailers = ending Trailers 0 ∷ []
+end_by ToEnd named trailers = ending Trailers 0 ∷ []
+
 abbrev pub end_items : Course → List Field → List Item
-end_items course trailers = by_framing course.framing
-  where
-    by_framing : Framing1 → List Item
-    by_framing Chunked = trailer_section (clean_trailers course.named trailers) ∷ ending Nothing 0 ∷ []
-    by_framing Empty = ending Trailers 0 ∷ []
-    by_framing (Counted n) = ending Trailers 0 ∷ []
-    by_framing ToEnd = ending Trailers 0 ∷ []
+end_items course trailers = end_by course.framing course.named trailers
 
 -- t completes the body from there
 pub record IsBodyRest (L : Bounds) (course : Course) (at : At) (q : List Item) (t : Text) : Type 0 where
