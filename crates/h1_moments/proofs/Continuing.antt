@@ -59,4 +59,3 @@ start_count (response is status) fields = omega (arith, items-append (map interi
     none : (is : List Interim) → content_items (map interim_item is) ≡ 0
     none [] = refl
     none (i ∷ is) = none is
-

@@ -18,9 +18,6 @@ use Rattle.h1_spec.specs.BodyStates.{At, over, Rest, RestOf, Found, behind_conte
 use Rattle.h1_spec.proofs.BodyMarks.{marked_bytes}
 use Rattle.h1_read.specs.Places.{Setting, Place, in_body, behind, Course, end_by, end_items, IsBodyRest, Completes}
 
-
-
-
 pub bytes_behind : (x y : List ℕ) → All (λ n. n < 256) (x ++ y) → All (λ n. n < 256) y
 bytes_behind [] y h = h
 bytes_behind (b ∷ x) y h = bytes_behind x y (All-tail (λ (n : ℕ). n < 256) b (x ++ y) h)

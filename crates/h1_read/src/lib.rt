@@ -2,5 +2,4 @@
 #![tactic(auto)]
 
 /// What is known of the places that a reader stands at.
-pub fn reader_laws()
-{}
+pub fn reader_laws() {}

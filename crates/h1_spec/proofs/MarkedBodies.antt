@@ -79,9 +79,9 @@ marks_chunks (chunk ∷ chunks) x y some h =
     let more = marks_chunks chunks h.1 y (All-tail (λ (c : List ℕ). 0 < length c) chunk chunks some) h.3 in
     let one : Text = as_framing line ++ (as_content chunk ++ as_framing crlf) in
     let shape : x ++ y ≡ line ++ (chunk ++ (crlf ++ (h.1 ++ y))) =
-        ap (λ (z : List ℕ). z ++ y) h.4 ∙ append_assoc h.0 h.1 y
-        ∙ ap (λ (z : List ℕ). z ++ (h.1 ++ y)) (first.4 ∙ ap (λ (z : List ℕ). line ++ z) (body.4 ∙ (λ i. body.2 i ++ body.3 i)))
-        ∙ chunk_join line chunk (h.1 ++ y) in (
+    ap (λ (z : List ℕ). z ++ y) h.4 ∙ append_assoc h.0 h.1 y
+    ∙ ap (λ (z : List ℕ). z ++ (h.1 ++ y)) (first.4 ∙ ap (λ (z : List ℕ). line ++ z) (body.4 ∙ (λ i. body.2 i ++ body.3 i)))
+    ∙ chunk_join line chunk (h.1 ++ y) in (
       one ++ more.0,
       (one, more.0, (line, first.2, refl), more.1, refl),
       ap (marked (start Chunked)) shape ∙ one_chunk chunk line (h.1 ++ y) (All-head (λ (c : List ℕ). 0 < length c) chunk chunks some) first.2
@@ -136,11 +136,11 @@ chunks_marked (chunk ∷ chunks) t y some h =
     let one : Text = as_framing line ++ (as_content chunk ++ as_framing crlf) in
     let more = chunks_marked chunks h.1 y (All-tail (λ (c : List ℕ). 0 < length c) chunk chunks some) h.3 in
     let same : bytes_of one ≡ line ++ (chunk ++ crlf) =
-        bytes_of-append (as_framing line) (as_content chunk ++ as_framing crlf) ∙ (λ i. framing_bytes line i ++ (bytes_of-append (as_content chunk) (as_framing crlf) ∙ (λ j. content_bytes chunk j ++ framing_bytes crlf j)) i) in
+    bytes_of-append (as_framing line) (as_content chunk ++ as_framing crlf) ∙ (λ i. framing_bytes line i ++ (bytes_of-append (as_content chunk) (as_framing crlf) ∙ (λ j. content_bytes chunk j ++ framing_bytes crlf j)) i) in
     let whole : t ≡ one ++ h.1 = h.4 ∙ ap (λ (z : Text). z ++ h.1) first.2 in
     let shape : bytes_of t ++ y ≡ line ++ (chunk ++ (crlf ++ (bytes_of h.1 ++ y))) =
-        ap (λ (z : Text). bytes_of z ++ y) whole ∙ ap (λ (z : List ℕ). z ++ y) (bytes_of-append one h.1) ∙ append_assoc (bytes_of one) (bytes_of h.1) y
-        ∙ ap (λ (z : List ℕ). z ++ (bytes_of h.1 ++ y)) same ∙ chunk_join line chunk (bytes_of h.1 ++ y) in
+    ap (λ (z : Text). bytes_of z ++ y) whole ∙ ap (λ (z : List ℕ). z ++ y) (bytes_of-append one h.1) ∙ append_assoc (bytes_of one) (bytes_of h.1) y
+    ∙ ap (λ (z : List ℕ). z ++ (bytes_of h.1 ++ y)) same ∙ chunk_join line chunk (bytes_of h.1 ++ y) in
     ap (marked (start Chunked)) shape ∙ one_chunk chunk line (bytes_of h.1 ++ y) (All-head (λ (c : List ℕ). 0 < length c) chunk chunks some) first.1
     ∙ ap (λ (z : Text). one ++ z) more ∙ sym (append_assoc one h.1 (marked (start Chunked) y)) ∙ ap (λ (z : Text). z ++ marked (start Chunked) y) (sym whole)
 

@@ -159,13 +159,7 @@ impl Http1Writer {
         ensures { JobSends S.write_step self.old self.new (trailer_section fields.now.lines ∷ []) sink.old result sink.new }
     {
         let stage = mem::replace(&mut self.stage, Stage::Ended);
-        send_end(
-            stage,
-            &mut self.head,
-            content_of(&self.chunk),
-            sink,
-            fields,
-        )
+        send_end(stage, &mut self.head, content_of(&self.chunk), sink, fields)
     }
 
     /// What is left goes out, where the trailer section is left out.
