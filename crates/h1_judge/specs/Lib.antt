@@ -1,3 +1,5 @@
+pub mod Stubs
 pub mod Courses
 pub mod Views
+pub mod Judges
 pub mod JudgedLaws

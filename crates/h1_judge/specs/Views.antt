@@ -9,10 +9,14 @@ use Rattle.bh_spec.specs.Messages.{Field, Interim, AreHeaders}
 use Rattle.bh_spec.specs.Canonical.{FieldsFit}
 use Rattle.bh_spec.specs.Texts.{Text}
 use Rattle.bh_spec.specs.Items.{Item, interim_response, head, content_byte, trailer_section, ending, Head}
+use Rattle.bh_spec.specs.declared.Form.{Form}
+use Rattle.bh_push.specs.Decoders.{behind_head, in_padding, IsBehindContent}
 use Rattle.bh_push.specs.Hands.{IsPrompt}
 use Rattle.bh_push.specs.Standing.{IsRight}
 use Rattle.bh_stream.specs.declared.traits.Event.{Event}
 use Rattle.bh_stream.specs.declared.traits.Event.TheVariants as events
+use Rattle.bh_stream.specs.declared.traits.Pushed.{Pushed}
+use Rattle.bh_stream.specs.declared.traits.Pushed.TheVariants as pushed
 use Rattle.bh_reading.specs.Readings as binary
 use Rattle.bh_reading.specs.Readings.{Counted}
 use Rattle.bh_reading.specs.Coming.{InterimComes, StartComes, TrailersCome}
@@ -20,7 +24,7 @@ use Rattle.h1_spec.specs.Cleaning.{hops, clean, clean_trailers, says_host}
 use Rattle.h1_spec.specs.Http1Text.{has_bad_value}
 use Rattle.h1_spec.specs.Moments.{announced, of_end, first_of}
 use Rattle.h1_judge.specs.declared.judged.IntoWhy.{IntoWhy}
-use Rattle.h1_judge.specs.declared.judged.IntoWhy.TheVariants.{Binary, Form}
+use Rattle.h1_judge.specs.declared.judged.IntoWhy.TheVariants as why
 use Rattle.h1_judge.specs.Courses.{start_of, cleaned_items, Course, start_course, behind, item_form, AreFree}
 
 -- the decoder of the binary message, whether a response answers HEAD, what is known for the judgement, and the cleaned lines of the
@@ -44,6 +48,15 @@ room v = binary.room v.reading
 -- no event stands there that wasn't handed out
 abbrev pub Prompt : Counted → Type 0
 Prompt c = IsPrompt c.held.decoder.limits c.held.decoder.at
+
+-- behind an event the decoder stands right behind the thing that was handed out
+abbrev pub IsRightAt : {R : Type 0} → Pushed R → Counted → Type 0
+IsRightAt pushed.Need c = Unit {0}
+IsRightAt (pushed.Content taken bytes) c = IsBehindContent c.held.decoder.at
+IsRightAt (pushed.Whole taken (events.Interim status)) c = IsRight (interim_response status [] ∷ []) c.held.decoder.at
+IsRightAt (pushed.Whole taken events.Head) c = (form : Form) × (c.held.decoder.at ≡ behind_head form)
+IsRightAt (pushed.Whole taken events.Trailers) c = c.held.decoder.at ≡ in_padding 0
+IsRightAt (pushed.Refused r) c = Unit {0}
 
 -- The bytes lead the decoder of the binary message to items for which no rule holds, and these are cleaned.
 pub record Moved (v : JudgedView) (bytes : List ℕ) (items : List Item) (w : JudgedView) : Type 0 where
@@ -117,8 +130,8 @@ pub record IsJudged (v : JudgedView) (bytes : List ℕ) (form : NoForm) : Type 0
 
 -- a byte is none of a message; or with the last of the bytes the message is judged
 abbrev pub RefusesHere : JudgedView → List ℕ → IntoWhy → Type 0
-RefusesHere v bytes (Binary refusal) = binary.refuses v.reading bytes refusal
-RefusesHere v bytes (Form form) = IsJudged v bytes form
+RefusesHere v bytes (why.Binary refusal) = binary.refuses v.reading bytes refusal
+RefusesHere v bytes (why.Form form) = IsJudged v bytes form
 
 -- Some bytes of the piece were taken before those in which one is refused.
 pub record IsRefused (v : JudgedView) (piece : List ℕ) (why : IntoWhy) : Type 0 where
@@ -141,8 +154,8 @@ pub record IsEndJudged (v : JudgedView) (form : NoForm) : Type 0 where
   pub judged : first_of (of_end v.course.framing v.course.counted) ≡ Some form
 
 abbrev pub misses : JudgedView → IntoWhy → Type 0
-misses v (Binary refusal) = binary.misses v.reading refusal
-misses v (Form form) = IsEndJudged v form
+misses v (why.Binary refusal) = binary.misses v.reading refusal
+misses v (why.Form form) = IsEndJudged v form
 
 -- the summary of the message that was read, for whose end no rule holds
 pub record Tells (v : JudgedView) (omitted : Omitted) (padding : ℕ) (s : Summary) : Type 0 where

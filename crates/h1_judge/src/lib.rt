@@ -2,5 +2,7 @@
 #![tactic(auto)]
 
 mod judged;
+mod judging;
+mod stubs;
 
 pub use judged::IntoWhy;

@@ -1,0 +1,105 @@
+-- What is kept for the judgement, and what the calls on it answer.
+use Rattle.std.specs.Prelude.{ℕ, ◌≡◌, ◌<◌, ◌≤◌, ◌+◌, ◌-◌, ◌/◌, ◌^◌, Bool, Option, Some, None, List, [], ◌∷◌, ◌++◌, length, map}
+use Rattle.bh_spec.specs.declared.NoForm.{NoForm}
+use Rattle.bh_spec.specs.Bounds.{Bounds}
+use Rattle.bh_spec.specs.Messages.{Field}
+use Rattle.bh_spec.specs.Items.{Item, head, content_byte, Head}
+use Rattle.bh_model.specs.Lines.{FieldsView}
+use Rattle.bh_push.specs.Hands.{Held}
+use Rattle.bh_reading.specs.Readings.{Counted as ReadingView}
+use Rattle.h1_spec.specs.declared.Framing1.{Framing1}
+use Rattle.h1_spec.specs.declared.Framing1.TheVariants.{Empty, Counted, Chunked, ToEnd}
+use Rattle.h1_judge.specs.Stubs.{room_in, count_in, HopsView}
+use Rattle.h1_judge.specs.declared.judging.Judge.{Judge}
+use Rattle.h1_judge.specs.Courses.{Course, behind_item, behind, item_form, AreFree}
+use Rattle.h1_judge.specs.Views.{JudgedView, IsFitting}
+
+abbrev pub course_of : Judge → Course
+course_of j = record { framing = j.framing; counted = j.counted; named = j.hops.names }
+
+-- the two parts as one
+abbrev pub view_of : ReadingView → Judge → JudgedView
+view_of c j = record { reading = c; to_head = j.to_head; course = course_of j; cleaned = j.cleaned.lines }
+
+-- There is room for the names and the lines of any section within the limits.
+pub record HasRoom (L : Bounds) (hops : HopsView) (cleaned : FieldsView) : Type 0 where
+  pub section : ℕ
+  pub section_is : L.section ≡ Some section
+  pub names : section ≤ hops.room
+  pub lines : section ≤ room_in cleaned
+  pub count : section / 3 ≤ count_in cleaned
+  pub ended : cleaned.making ≡ None
+
+-- the same room, and no line is being made
+pub record KeepsRoom (v w : Judge) : Type 0 where
+  pub names : w.hops.room ≡ v.hops.room
+  pub lines : room_in w.cleaned ≡ room_in v.cleaned
+  pub count : count_in w.cleaned ≡ count_in v.cleaned
+  pub ended : w.cleaned.making ≡ None
+
+-- of a counted body, which has at most 18 digits, no more than its length was read
+abbrev pub IsCounting : Framing1 → ℕ → Type 0
+IsCounting Empty n = Unit {0}
+IsCounting (Counted field) n = (n ≤ field) × (field < 10 ^ 18)
+IsCounting Chunked n = Unit {0}
+IsCounting ToEnd n = Unit {0}
+
+-- what is true of it between two calls
+pub record IsSound (L : Bounds) (j : Judge) : Type 0 where
+  pub room : HasRoom L j.hops j.cleaned
+  pub counting : IsCounting j.framing j.counted
+
+-- there is room for the section of the item
+abbrev pub HasRoomFor : Judge → Item → Type 0
+HasRoomFor j item = (L : Bounds) × IsSound L j × IsFitting L item
+
+-- how many bytes may come before it is judged: one more than its body may still have
+abbrev pub IsShort : Framing1 → ℕ → ℕ → Type 0
+IsShort Empty n long = long ≤ 1
+IsShort (Counted field) n long = n + long ≤ field + 1
+IsShort Chunked n long = Unit {0}
+IsShort ToEnd n long = Unit {0}
+
+-- The answer for a section whose item this is: the item is judged, and its section cleaned. What is known stands behind it, if no rule
+-- holds.
+pub record Judges (v : Judge) (item : Item) (own : List Field) (result : Option NoForm) (w : Judge) : Type 0 where
+  pub to_head : w.to_head ≡ v.to_head
+  pub answer : result ≡ item_form (course_of v) item
+  pub course : result ≡ None → course_of w ≡ behind_item v.to_head (course_of v) item
+  pub cleaned : w.cleaned.lines ≡ own
+  pub room : KeepsRoom v w
+  pub counting : result ≡ None → IsCounting w.framing w.counted
+
+-- The bytes are content, and a rule holds for the last of them, and none before it.
+pub record IsLastJudged (v : Judge) (bytes : List ℕ) (form : NoForm) : Type 0 where
+  pub front : List ℕ
+  pub last : ℕ
+  pub split : bytes ≡ front ++ last ∷ []
+  pub free : AreFree v.to_head (course_of v) (map content_byte front)
+  pub judged : item_form (behind v.to_head (course_of v) (map content_byte front)) (content_byte last) ≡ Some form
+
+-- no rule holds for any of the bytes, and what is known stands behind them
+pub record AreCounted (v : Judge) (bytes : List ℕ) (w : Judge) : Type 0 where
+  pub free : AreFree v.to_head (course_of v) (map content_byte bytes)
+  pub course : course_of w ≡ behind v.to_head (course_of v) (map content_byte bytes)
+  pub counting : IsCounting w.framing w.counted
+
+abbrev pub CountsContent : Judge → List ℕ → Option NoForm → Judge → Type 0
+CountsContent v bytes None w = AreCounted v bytes w
+CountsContent v bytes (Some form) w = IsLastJudged v bytes form
+
+-- what content leaves as it is
+pub record Leaves (v w : Judge) : Type 0 where
+  pub to_head : w.to_head ≡ v.to_head
+  pub hops : w.hops ≡ v.hops
+  pub cleaned : w.cleaned ≡ v.cleaned
+
+-- the decoder shows a head for whose section there is room
+abbrev pub IsHeadShown : Judge → Held → Type 0
+IsHeadShown j held = (of : Head) × (fields : List Field) × (held.head ≡ Some of) × (held.lines ≡ Some fields) × HasRoomFor j (head of fields)
+
+-- the first bytes of a piece, some of them if it has any
+pub record IsFront (piece front : List ℕ) : Type 0 where
+  pub after : List ℕ
+  pub split : piece ≡ front ++ after
+  pub some : 0 < length piece → 0 < length front
