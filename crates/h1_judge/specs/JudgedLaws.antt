@@ -4,7 +4,6 @@ use Rattle.bh_spec.specs.Bounds.{Bounds}
 use Rattle.bh_spec.specs.Texts.{Text, content_in}
 use Rattle.bh_spec.specs.Residuals.{IsResidual}
 use Rattle.bh_spec.specs.Items.{Item, interim_response, head, content_byte, trailer_section, ending}
-use Rattle.bh_push.specs.Hands.{IsPrompt}
 use Rattle.bh_stream.specs.Decoding.{content_items, Leads, DecoderLaws}
 use Rattle.bh_reading.specs.Readings as binary
 use Rattle.bh_reading.specs.ReadingLaws.{reading_laws}

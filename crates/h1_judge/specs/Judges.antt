@@ -71,22 +71,22 @@ pub record Judges (v : Judge) (item : Item) (own : List Field) (result : Option 
   pub counting : result ≡ None → IsCounting w.framing w.counted
 
 -- The bytes are content, and a rule holds for the last of them, and none before it.
-pub record IsLastJudged (v : Judge) (bytes : List ℕ) (form : NoForm) : Type 0 where
+pub record IsLastJudged (to_head : Bool) (c : Course) (bytes : List ℕ) (form : NoForm) : Type 0 where
   pub front : List ℕ
   pub last : ℕ
   pub split : bytes ≡ front ++ last ∷ []
-  pub free : AreFree v.to_head (course_of v) (map content_byte front)
-  pub judged : item_form (behind v.to_head (course_of v) (map content_byte front)) (content_byte last) ≡ Some form
+  pub free : AreFree to_head c (map content_byte front)
+  pub judged : item_form (behind to_head c (map content_byte front)) (content_byte last) ≡ Some form
 
 -- no rule holds for any of the bytes, and what is known stands behind them
-pub record AreCounted (v : Judge) (bytes : List ℕ) (w : Judge) : Type 0 where
-  pub free : AreFree v.to_head (course_of v) (map content_byte bytes)
-  pub course : course_of w ≡ behind v.to_head (course_of v) (map content_byte bytes)
-  pub counting : IsCounting w.framing w.counted
+pub record AreCounted (to_head : Bool) (c : Course) (bytes : List ℕ) (d : Course) : Type 0 where
+  pub free : AreFree to_head c (map content_byte bytes)
+  pub course : d ≡ behind to_head c (map content_byte bytes)
+  pub counting : IsCounting d.framing d.counted
 
-abbrev pub CountsContent : Judge → List ℕ → Option NoForm → Judge → Type 0
-CountsContent v bytes None w = AreCounted v bytes w
-CountsContent v bytes (Some form) w = IsLastJudged v bytes form
+abbrev pub CountsContent : Bool → Course → List ℕ → Option NoForm → Course → Type 0
+CountsContent to_head c bytes None d = AreCounted to_head c bytes d
+CountsContent to_head c bytes (Some form) d = IsLastJudged to_head c bytes form
 
 -- what content leaves as it is
 pub record Leaves (v w : Judge) : Type 0 where

@@ -9,14 +9,9 @@ use Rattle.bh_spec.specs.Messages.{Field, Interim, AreHeaders}
 use Rattle.bh_spec.specs.Canonical.{FieldsFit}
 use Rattle.bh_spec.specs.Texts.{Text}
 use Rattle.bh_spec.specs.Items.{Item, interim_response, head, content_byte, trailer_section, ending, Head}
-use Rattle.bh_spec.specs.declared.Form.{Form}
-use Rattle.bh_push.specs.Decoders.{behind_head, in_padding, IsBehindContent}
-use Rattle.bh_push.specs.Hands.{IsPrompt}
-use Rattle.bh_push.specs.Standing.{IsRight}
+use Rattle.bh_push.specs.Standing.{IsRight, IsPrompt}
 use Rattle.bh_stream.specs.declared.traits.Event.{Event}
 use Rattle.bh_stream.specs.declared.traits.Event.TheVariants as events
-use Rattle.bh_stream.specs.declared.traits.Pushed.{Pushed}
-use Rattle.bh_stream.specs.declared.traits.Pushed.TheVariants as pushed
 use Rattle.bh_reading.specs.Readings as binary
 use Rattle.bh_reading.specs.Readings.{Counted}
 use Rattle.bh_reading.specs.Coming.{InterimComes, StartComes, TrailersCome}
@@ -48,15 +43,6 @@ room v = binary.room v.reading
 -- no event stands there that wasn't handed out
 abbrev pub Prompt : Counted → Type 0
 Prompt c = IsPrompt c.held.decoder.limits c.held.decoder.at
-
--- behind an event the decoder stands right behind the thing that was handed out
-abbrev pub IsRightAt : {R : Type 0} → Pushed R → Counted → Type 0
-IsRightAt pushed.Need c = Unit {0}
-IsRightAt (pushed.Content taken bytes) c = IsBehindContent c.held.decoder.at
-IsRightAt (pushed.Whole taken (events.Interim status)) c = IsRight (interim_response status [] ∷ []) c.held.decoder.at
-IsRightAt (pushed.Whole taken events.Head) c = (form : Form) × (c.held.decoder.at ≡ behind_head form)
-IsRightAt (pushed.Whole taken events.Trailers) c = c.held.decoder.at ≡ in_padding 0
-IsRightAt (pushed.Refused r) c = Unit {0}
 
 -- The bytes lead the decoder of the binary message to items for which no rule holds, and these are cleaned.
 pub record Moved (v : JudgedView) (bytes : List ℕ) (items : List Item) (w : JudgedView) : Type 0 where

@@ -1,5 +1,5 @@
 //! What is kept for the judgement.
-ghost use Rattle.std.specs.Prelude.{◌≡◌, ◌<◌, ◌≤◌, ◌+◌, ◌-◌, ◌↔◌, None, Some, IfOk, List, length, min, take};
+ghost use Rattle.std.specs.Prelude.{◌≡◌, ◌<◌, ◌≤◌, false, None, Some, IfOk, List, length, min, take};
 ghost use Rattle.bh_spec.specs.Bounds.{Bounds};
 ghost use Rattle.bh_spec.specs.Messages.{Field};
 ghost use Rattle.bh_spec.specs.Items.{interim_response, head, trailer_section, Head, of_request, of_response};
@@ -115,7 +115,7 @@ impl Judge {
         requires counting { IsCounting self.old.framing self.old.counted }
         requires short { IsShort self.old.framing self.old.counted (length bytes.now) }
         requires some { 0 < length bytes.now }
-        ensures counts { CountsContent self.old bytes.now result self.new }
+        ensures counts { CountsContent self.old.to_head (course_of self.old) bytes.now result (course_of self.new) }
         ensures leaves { Leaves self.old self.new }
     {
         match self.framing {

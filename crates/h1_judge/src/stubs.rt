@@ -1,5 +1,5 @@
 //! Stubs.
-ghost use Rattle.std.specs.Prelude.{◌≡◌, ◌≤◌, [], None, IfOk, length, IsTrue, All};
+ghost use Rattle.std.specs.Prelude.{◌≡◌, ◌≤◌, ℕ, false, [], None, IfOk, length, IsTrue, All};
 ghost use Rattle.bh_spec.specs.Messages.{Start, request, response};
 ghost use Rattle.bh_model.specs.Lines.{lines_room};
 ghost use Rattle.bh_model.specs.Values.{control_lent};
@@ -8,14 +8,9 @@ ghost use Rattle.h1_spec.specs.Framing.{lengths};
 ghost use Rattle.h1_spec.specs.Http1Text.{of_interim, of_head, is_length};
 ghost use Rattle.h1_spec.specs.Moments.{announced, of_trailers, first_of};
 ghost use Rattle.h1_judge.specs.Stubs.{room_in, count_in, status_in, IsNamed};
-ghost use Rattle.bh_stream.specs.Decoding.{IsPushed};
-ghost use Rattle.bh_reading.specs.Readings.{Moved, shows, refuses, limits, IsReady};
-ghost use Rattle.h1_judge.specs.Views.{Prompt, IsRightAt};
 
 use bh_base::NoMemory;
-use bh_model::{ControlView, Fields, NoForm, Refusal};
-use bh_reading::Reading;
-use bh_stream::{Decode, Pushed};
+use bh_model::{ControlView, Fields, NoForm};
 use h1_rules::Framing1;
 use std::alloc::Global;
 use std::marker::Model;
@@ -88,8 +83,8 @@ pub fn form_of_interim(status: u16, fields: &Fields, cleaned: &Fields) -> Option
 }
 
 pub fn form_of_request(control: ControlView<'_>, fields: &Fields, cleaned: &Fields) -> Option<NoForm>
-    requires { cleaned.now.lines ≡ clean (hops_spec fields.now.lines) (says_host (request (control_lent control.now))) fields.now.lines }
-    ensures { result ≡ first_of (of_head (request (control_lent control.now)) fields.now.lines) }
+    requires { cleaned.now.lines ≡ clean (hops_spec fields.now.lines) (says_host (request (control_lent control))) fields.now.lines }
+    ensures { result ≡ first_of (of_head (request (control_lent control.entry)) fields.now.lines) }
 {
     None
 }
@@ -112,14 +107,4 @@ pub fn announced_by(to_head: bool, status: Option<u16>, fields: &Fields) -> Fram
     ensures { (start : Start) → status_in start ≡ status → result ≡ announced to_head start fields.now.lines }
 {
     Framing1::Empty
-}
-
-pub fn push_binary<'p>(reading: &mut Reading, piece: &'p [u8]) -> Pushed<'p, Refusal>
-    requires ready { IsReady reading.old }
-    ensures pushed { IsPushed Moved shows refuses reading.old piece.now result reading.new }
-    ensures limits { limits reading.new ≡ limits reading.old }
-    ensures right { IsRightAt result reading.new }
-    ensures prompt { Prompt reading.new }
-{
-    reading.push(piece)
 }
