@@ -18,7 +18,7 @@ use Rattle.bh_spec.proofs.Fitting.{fits_where_spelled}
 use Rattle.bh_model.specs.Ranges.{AreLimits}
 use Rattle.bh_stream.specs.Outputs.{Output, written, weighed, plain}
 use Rattle.bh_stream.specs.Logs.{HasBody}
-use Rattle.bh_stream.specs.Formats.{ShowsContent}
+use Rattle.bh_stream.specs.Messages.{ShowsMessages}
 use Rattle.bh_stream.proofs.Outputs.{written-append, written_plain}
 use Rattle.bh_stream.proofs.Messages.{shows_texts}
 use Rattle.bh_encode.specs.Calls.{interim_call, request_head, response_head, at_start, text_of, texts, head_calls}
@@ -117,7 +117,7 @@ weight_is m =
     ∙ ap (λ (o : Output). o ++ (chunks ++ end_out m.trailers)) (sym (plain-append number (begin ++ fields)) ∙ ap plain (sym (heads_are m.start m.fields)))
 
 -- a text of a message, of which each front shows the content that it has
-pub shows_content : (L : Bounds) → AreLimits L → ShowsContent L (HasBody (IsMessageText L)) (message_owed false)
+pub shows_content : (L : Bounds) → AreLimits L → ShowsMessages L (HasBody (IsMessageText L)) (message_owed false)
 shows_content L limits = shows_texts L (message_owed false) text_owed
   where
     text_owed : (q : List Item) (t : Text) → MessageOf L q t → (x : Text) × (message_owed false q ≡ weighed x) × IsMessageText L x

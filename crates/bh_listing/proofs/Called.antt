@@ -10,6 +10,7 @@ use Rattle.bh_stream.specs.Runs.{Streams}
 use Rattle.bh_stream.specs.declared.streaming.End.{End}
 use Rattle.bh_stream.proofs.Calls.{stream_call}
 use Rattle.bh_stream.proofs.Formats.{keeps_up}
+use Rattle.bh_stream.proofs.Messages.{keeps_messages}
 use Rattle.bh_reading.specs.Readings.{Counted, rest, room, Moved, IsAtStart, refuses, tells, misses}
 use Rattle.bh_reading.specs.ReadingLaws.{reading_laws}
 use Rattle.bh_reading.proofs.Counts.{few_counts}
@@ -28,5 +29,5 @@ was_listed L limits v start r h =
     record {
       steps = h.steps;
       call = stream_call L show v (owed at_start) reading_laws knows (reading_judges L (few_counts L limits) v start) r h;
-      keeps_up = keeps_up L show v (owed at_start) knows reading_laws Shown (shows_content L) h;
+      keeps_up = keeps_messages L Shown 8223 31 h.steps (keeps_up knows reading_laws Shown (shows_content L) h);
     }

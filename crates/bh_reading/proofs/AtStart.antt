@@ -15,7 +15,8 @@ use Rattle.bh_push.specs.Pushes.{DecoderView}
 use Rattle.bh_push.proofs.Starting.{start_is}
 use Rattle.bh_stream.specs.Outputs.{written}
 use Rattle.bh_stream.specs.Jobs.{Owing}
-use Rattle.bh_stream.specs.Formats.{Knows}
+use Rattle.bh_stream.specs.Messages.{items_in, KnowsMessages}
+use Rattle.bh_stream.proofs.Messages.{one_spelling}
 use Rattle.bh_reading.specs.Readings.{Counted, rest, room, IsAtStart, IsReady}
 use Rattle.bh_reading.specs.ReadingLaws.{room_at}
 
@@ -54,12 +55,13 @@ module _ (L : Bounds) (limits : AreLimits L) (v : Counted) (start : IsAtStart L 
       }
 
   pub knows_at_start : (output : Message → List ℕ) (owed : Owing) → ((m : Message) (o : Omitted) (z : ℕ) (t : Text) → Spells L m o z t → written (owed (items m o z)) ≡ output m)
-      → Knows L output rest room v owed
+      → KnowsMessages L output rest room v owed
   knows_at_start output owed owes = record {
-    reads = at_start;
-    alone = from_start;
-    limit = ap (λ (K : Bounds). K.input) limits.same ∙ ap Some (sym room_is);
-    owes = owes;
+    reads = λ s t h. at_start (items_in s) t (s.message, s.omitted, s.padding, refl, h);
+    alone = λ q t h. let m = from_start q t h in (record { message = m.0; omitted = m.1; padding = m.2 }, m.3, m.4);
+    once = one_spelling L;
+    limit_is = ap (λ (K : Bounds). K.input) limits.same ∙ ap Some (sym room_is);
+    owes = λ s t h. owes s.message s.omitted s.padding t h;
   }
     where
       room_is : room v ≡ limits.input

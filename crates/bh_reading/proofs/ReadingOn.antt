@@ -1,5 +1,5 @@
 -- What a push of the decoder of a call leads to.
-use Rattle.std.proofs.Common.{◌≡◌, ◌<◌, ◌≤◌, ◌+◌, ℕ, Option, Some, None, IfSome, List, [], ◌∷◌, length, take, map, refl, sym, ap, subst, arith, length-take, length-append}
+use Rattle.std.proofs.Common.{◌≡◌, ◌<◌, ◌≤◌, ◌+◌, ◌⊎◌, inl, ℕ, Option, Some, None, IfSome, List, [], ◌∷◌, length, take, map, refl, sym, ap, subst, arith, length-take, length-append}
 use Rattle.std.proofs.lemmas.List.{take_all}
 use Rattle.bh_spec.specs.declared.Kind.{Kind}
 use Rattle.bh_spec.specs.declared.Refusal.{Refusal}
@@ -9,11 +9,12 @@ use Rattle.bh_spec.specs.Items.{Item, Head, interim_response, head, content_byte
 use Rattle.bh_push.specs.Pushes.{DecoderView, Refuses, RefusesFirst, Fails, MissesAs}
 use Rattle.bh_push.specs.Hands.{Held, Handed, kind_of_head}
 use Rattle.bh_push.specs.Standing.{EndsWith}
-use Rattle.bh_stream.specs.Decoding.{content_items, Took}
+use Rattle.bh_stream.specs.Decoding.{content_items, IsAlive, IsSilent, Took}
 use Rattle.bh_stream.proofs.Moving.{items-map}
 use Rattle.bh_stream.specs.declared.traits.Event.{Event}
 use Rattle.bh_stream.specs.declared.traits.Event.TheVariants as events
-use Rattle.bh_reading.specs.Readings.{Counted, lines_in, kind_behind, count, Moved, IsReady, shows}
+use Rattle.bh_reading.specs.Readings.{Counted, rest, lines_in, kind_behind, count, Moved, IsReady, shows}
+use Rattle.bh_reading.specs.ReadingLaws.{alive_behind}
 
 within_at : (o : Option ℕ) (limit n : ℕ) → o ≡ Some limit → IsWithin o n → n ≤ limit
 within_at (Some k) limit n e h = let same : k ≡ limit = cc in omega (arith, h, same)
@@ -41,8 +42,10 @@ moved_on v r piece n items h handed kind lines content a b c =
 
 pub took_on : (v : Counted) → IsReady v → (piece : List ℕ) (n : ℕ) → 0 < n → (items : List Item) (h : Held) → Handed v.held piece n items h → (kind : Kind) (lines content : ℕ)
     → kind ≡ kind_behind items v.kind → lines ≡ count (v.lines + lines_in items) → content ≡ count (v.content + content_items items)
-    → Took Moved v piece n items (record { held = h; kind = kind; lines = lines; content = content })
-took_on v r piece n some items h handed kind lines content a b c = record { some = some; inside = handed.took.takes.inside; moved = moved_on v r piece n items h handed kind lines content a b c }
+    → Took rest Moved v piece n items (record { held = h; kind = kind; lines = lines; content = content })
+took_on v r piece n some items h handed kind lines content a b c =
+    let moved = moved_on v r piece n items h handed kind lines content a b c in
+    record { some = some; inside = handed.took.takes.inside; moved = moved; alive = alive_behind v (record { held = h; kind = kind; lines = lines; content = content }) (take n piece) items moved }
 
 pub content_lines : (bytes : List ℕ) → lines_in (map content_byte bytes) ≡ 0
 content_lines [] = refl
@@ -68,10 +71,15 @@ missing_first v r w e h = by_refusal v.refusal e h
 
 -- ---- the answers
 
-pub need_on : (v : Counted) → IsReady v → (piece : List ℕ) (h : Held) → Handed v.held piece (length piece) [] h → Moved v piece [] (record { held = h; kind = v.kind; lines = v.lines; content = v.content })
+abbrev pub NeedOn : Counted → List ℕ → Counted → Type 0
+NeedOn v piece w = Moved v piece [] w × (IsAlive rest w ⊎ IsSilent rest v piece)
+
+pub need_on : (v : Counted) → IsReady v → (piece : List ℕ) (h : Held) → Handed v.held piece (length piece) [] h → NeedOn v piece (record { held = h; kind = v.kind; lines = v.lines; content = v.content })
 need_on v r piece h handed =
-    subst (λ (l : List ℕ). Moved v l [] (record { held = h; kind = v.kind; lines = v.lines; content = v.content })) (take_all (length piece) piece (omega arith))
-    (moved_on v r piece (length piece) [] h handed v.kind v.lines v.content refl (omega (arith, r.lines)) (omega (arith, r.content)))
+    let w : Counted = record { held = h; kind = v.kind; lines = v.lines; content = v.content } in
+    let moved : Moved v piece [] w = subst (λ (l : List ℕ). Moved v l [] w) (take_all (length piece) piece (omega arith))
+        (moved_on v r piece (length piece) [] h handed v.kind v.lines v.content refl (omega (arith, r.lines)) (omega (arith, r.content))) in
+    (moved, inl (alive_behind v w piece [] moved))
 
 -- what is shown of something that is there
 pub shown_of : {A : Type 0} (P : A → Type 0) (o : Option A) (a : A) → o ≡ Some a → IfSome o P → P a
@@ -80,7 +88,7 @@ shown_of P None a e h = absurd (cc)
 
 -- an event that isn't content
 abbrev pub EventOn : Counted → List ℕ → ℕ → Event → Counted → Type 0
-EventOn v piece n event w = (item : Item) × Took Moved v piece n (item ∷ []) w × shows w event item × (content_items (item ∷ []) ≡ 0)
+EventOn v piece n event w = (item : Item) × Took rest Moved v piece n (item ∷ []) w × shows w event item × (content_items (item ∷ []) ≡ 0)
 
 pub interim_on : (v : Counted) → IsReady v → (piece : List ℕ) (n status : ℕ) (h : Held) → 0 < n → (fields : List Field) → Handed v.held piece n (interim_response status fields ∷ []) h
     → (long : ℕ) → IfSome h.lines (λ lines. long ≡ length lines) → (lines : ℕ) → lines ≡ count (v.lines + long)
@@ -118,7 +126,7 @@ head_on v r piece n h some of fields handed kind named long shown lines counts =
 
 pub content_on : (v : Counted) → IsReady v → (piece : List ℕ) (n : ℕ) (bytes : List ℕ) (h : Held) → 0 < length bytes → length bytes ≤ n → Handed v.held piece n (map content_byte bytes) h
     → (content : ℕ) → content ≡ count (v.content + length bytes)
-    → Took Moved v piece n (map content_byte bytes) (record { held = h; kind = v.kind; lines = v.lines; content = content })
+    → Took rest Moved v piece n (map content_byte bytes) (record { held = h; kind = v.kind; lines = v.lines; content = content })
 content_on v r piece n bytes h some few handed content counts =
     took_on v r piece n (omega (arith, some, few)) (map content_byte bytes) h handed v.kind v.lines content (sym (content_kind bytes v.kind)) (omega (arith, r.lines, content_lines bytes))
     (omega (arith, counts, items-map bytes))
@@ -128,4 +136,4 @@ pub few_bytes : (piece : List ℕ) (n : ℕ) (bytes : List ℕ) → n ≤ length
 few_bytes piece n bytes inside e = omega (arith, long_take piece n inside, ap length e.ends, length-append e.front bytes)
 
 abbrev pub ContentOn : Counted → List ℕ → ℕ → List ℕ → Counted → Type 0
-ContentOn v piece n bytes w = Took Moved v piece n (map content_byte bytes) w × (0 < length bytes) × (length bytes ≤ n)
+ContentOn v piece n bytes w = Took rest Moved v piece n (map content_byte bytes) w × (0 < length bytes) × (length bytes ≤ n)

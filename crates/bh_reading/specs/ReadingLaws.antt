@@ -9,7 +9,7 @@ use Rattle.bh_spec.specs.Readers.{Moves}
 use Rattle.bh_spec.proofs.Residuals.{residual_here, residual_on}
 use Rattle.bh_push.specs.Decoders.{Rest as rest_at}
 use Rattle.bh_push.specs.Hands.{kind_of_head}
-use Rattle.bh_stream.specs.Decoding.{Leads, DecoderLaws}
+use Rattle.bh_stream.specs.Decoding.{IsAlive, Leads, DecoderLaws}
 use Rattle.bh_stream.proofs.Moving.{items-append}
 use Rattle.bh_reading.specs.Readings.{Counted, rest, within_limit, room, lines_in, kind_behind, Moved, IsReady}
 use Rattle.bh_reading.specs.ContentLaws.{content_of_rest}
@@ -50,13 +50,9 @@ behind_items R S T x y i j a b =
 
 leads : (v w : Counted) (x : List ℕ) (i : List Item) → Moved v x i w → Leads rest room v x i w
 leads v w x i m =
-    let alive = m.comes.goes_on in
     record {
       residual = subst (λ (L : Bounds). IsResidual (rest v) x (λ (q : List Item). i ++ q)
           (rest_at L w.held.decoder.at)) (sym m.limits) m.comes.within;
-      items_left = alive.spelled.0;
-      text_left = alive.text;
-      alive = subst (λ (L : Bounds). rest_at L w.held.decoder.at alive.spelled.0 alive.text) (sym m.limits) alive.spelled.1;
       room_left =
           omega (
             arith,
@@ -67,6 +63,16 @@ leads v w x i m =
             m.input.few,
           );
     }
+
+-- behind what was taken something completes the message
+pub alive_behind : (v w : Counted) (x : List ℕ) (i : List Item) → Moved v x i w → IsAlive rest w
+alive_behind v w x i m =
+    let alive = m.comes.goes_on in
+    (
+      alive.spelled.0,
+      alive.text,
+      subst (λ (L : Bounds). rest_at L w.held.decoder.at alive.spelled.0 alive.text) (sym m.limits) alive.spelled.1,
+    )
 
 stays : (v : Counted) → IsReady v → Moved v [] [] v
 stays v r = record {
@@ -112,7 +118,7 @@ goes_on v w u x y i j a b =
 
 is_ready : (v w : Counted) (x : List ℕ) (i : List Item) → IsReady v → Moved v x i w → IsReady w
 is_ready v w x i r m =
-    let alive = m.comes.goes_on in
+    let alive = alive_behind v w x i m in
     record {
       refusal = m.refusal;
       input = record {
@@ -121,9 +127,9 @@ is_ready v w x i r m =
             ∙ m.input.limit_is;
         few = omega (arith, m.taken, m.input.few);
       };
-      items = alive.spelled.0;
-      text = alive.text;
-      alive = subst (λ (L : Bounds). rest_at L w.held.decoder.at alive.spelled.0 alive.text) (sym m.limits) alive.spelled.1;
+      items = alive.0;
+      text = alive.1;
+      alive = alive.2;
       lines = omega (arith, m.lines);
       content = omega (arith, m.content);
     }

@@ -4,7 +4,7 @@ ghost use Rattle.bh_push.specs.Hands.{kind_of_head};
 ghost use Rattle.bh_push.specs.Standing.{IsPrompt};
 ghost use Rattle.bh_stream.specs.Decoding.{IsPushed};
 ghost use Rattle.bh_reading.specs.Places.{IsRightBehind};
-ghost use Rattle.bh_reading.specs.Readings.{IsAtStart, IsReady, Moved, count, limits, shows, refuses};
+ghost use Rattle.bh_reading.specs.Readings.{IsAtStart, IsReady, Moved, count, limits, rest, shows, refuses};
 
 use bh_base::NoMemory;
 use bh_model::{Kind, Limits, Refusal, Summary};
@@ -57,7 +57,7 @@ impl Reading {
     /// was handed out.
     pub fn read<'p>(&mut self, piece: &'p [u8]) -> Pushed<'p, Refusal>
         requires ready { IsReady self.old }
-        ensures pushed { IsPushed Moved shows refuses self.old piece.now result self.new }
+        ensures pushed { IsPushed rest Moved shows refuses self.old piece.now result self.new }
         ensures limits { limits self.new ≡ limits self.old }
         ensures right { IsRightBehind result self.new.held.decoder.at }
         ensures prompt { self.new.held.decoder.refusal ≡ None → IsPrompt (limits self.new) self.new.held.decoder.at }

@@ -14,11 +14,12 @@ use Rattle.bh_stream.specs.Logs.{ReadsTo}
 use Rattle.bh_stream.specs.Decoding.{Rest, Moving, DecoderLaws}
 use Rattle.bh_stream.specs.Jobs.{Owing}
 use Rattle.bh_stream.specs.Runs.{Streams, CallEnds, IsDone, IsMissing, IsRefusedIn}
-use Rattle.bh_stream.specs.Formats.{Knows}
-use Rattle.bh_stream.specs.Calls.{IsWhole, IsRefusal, StreamEnds, StreamCall, IsOfByte, IsOfEnd, Judges}
+use Rattle.bh_stream.specs.Messages.{KnowsMessages}
+use Rattle.bh_stream.specs.Calls.{IsWhole, IsRefusal, StreamEnds, PortCall, StreamCall, IsOfByte, IsOfEnd, Judges}
 use Rattle.bh_stream.specs.declared.streaming.End.{End}
 use Rattle.bh_stream.specs.declared.streaming.End.TheVariants as end
-use Rattle.bh_stream.proofs.Formats.{gives_fronts}
+use Rattle.bh_stream.proofs.Formats.{gives_always}
+use Rattle.bh_stream.proofs.Messages.{gives_messages}
 
 reads_sooner : (n at : ℕ) (steps : List Step) → n ≤ at → ReadsTo n steps → ReadsTo at steps
 reads_sooner n at steps h r = record { front = r.front; last = r.last; back = r.back; split = r.split; is_read = r.is_read; behind = r.behind; few = omega (arith, r.few, h) }
@@ -39,9 +40,24 @@ bound_in : (o : Option ℕ) (room n : ℕ) → o ≡ Some room → n ≤ room + 
 bound_in (Some limit) room n e h = let same : limit ≡ room = cc in omega (arith, same, h)
 bound_in None room n e h = absurd (cc)
 
+-- what is said of every call, from what the loop did
+pub port_call : {E A R V : Type 0} {limit : Option ℕ} {Gives : List Step → Type 0} {rest : Rest V} {room : V → ℕ} {moves : Moving V} {refuses : V → List ℕ → R → Type 0}
+    {tells : V → Omitted → ℕ → A → Type 0} {misses : V → R → Type 0} {v : V} {owed : Owing} {writes : Bool} {most : ℕ} {S : Type 0} {read write : S → Step → S → Type 0} {s t : S} {r : End A R} {e : E}
+    (Ends : E → List Step → Type 0) → limit ≡ Some (room v) → (h : Streams rest room moves refuses tells misses writes most read write v owed s r t) → Gives h.steps → Ends e h.steps
+    → PortCall limit Gives Ends read write h.steps s e t
+port_call {limit = limit} {room = room} {v = v} Ends limit_is h gives ends = record {
+  chain = h.chain;
+  asks = h.asks;
+  turns = h.turns;
+  bound = bound_in limit (room v) (reads h.steps) limit_is h.bound;
+  none_behind = h.none_behind;
+  gives = gives;
+  ends = ends;
+}
+
 module _ (L : Bounds) (output : Message → List ℕ) {V : Type 0} {rest : Rest V} {room : V → ℕ} {moves : Moving V} {ready : V → Type 0} {refuses : V → List ℕ → Refusal → Type 0}
     {tells : V → Omitted → ℕ → Summary → Type 0} {misses : V → Refusal → Type 0} (v : V) (owed : Owing) (laws : DecoderLaws rest room moves ready)
-    (knows : Knows L output rest room v owed) (judges : Judges L rest moves refuses tells misses v) where
+    (knows : KnowsMessages L output rest room v owed) (judges : Judges L rest moves refuses tells misses v) where
   -- a message, and its output
   is_whole : (s : Summary) (steps : List Step) → IsDone rest moves tells v owed s steps → IsWhole L output s steps
   is_whole s steps h =
@@ -53,7 +69,7 @@ module _ (L : Bounds) (output : Message → List ℕ) {V : Type 0} {rest : Rest 
         padding = h.padding;
         answer = t.2;
         summary_is = t.3;
-        gave = h.gave ∙ sym (ap (λ (q : List Item). written (owed q)) t.1) ∙ knows.owes t.0 h.omitted h.padding t.2.1.text t.2.1.spelled;
+        gave = h.gave ∙ sym (ap (λ (q : List Item). written (owed q)) t.1) ∙ knows.owes (record { message = t.0; omitted = h.omitted; padding = h.padding }) t.2.1.text t.2.1.spelled;
       }
 
   refused_as : (r : Refusal) (steps : List Step) → IsMissing moves misses v r steps ⊎ IsRefusedIn moves refuses v r steps → IsRefusal L r steps
@@ -72,12 +88,4 @@ module _ (L : Bounds) (output : Message → List ℕ) {V : Type 0} {rest : Rest 
 
   module _ {writes : Bool} {most : ℕ} {S : Type 0} {read write : S → Step → S → Type 0} {s t : S} where
     pub stream_call : (r : End Summary Refusal) → (h : Streams rest room moves refuses tells misses writes most read write v owed s r t) → StreamCall L output read write h.steps s r t
-    stream_call r h = record {
-      chain = h.chain;
-      asks = h.asks;
-      turns = h.turns;
-      bound = bound_in L.input (room v) (reads h.steps) knows.limit h.bound;
-      none_behind = h.none_behind;
-      gives = gives_fronts L output v owed knows laws h;
-      ends = ends_as r h.steps h.outcome;
-    }
+    stream_call r h = port_call (StreamEnds L output) knows.limit_is h (gives_messages L output h.steps (gives_always knows laws h)) (ends_as r h.steps h.outcome)

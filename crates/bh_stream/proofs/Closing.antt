@@ -9,13 +9,14 @@ use Rattle.bh_spec.specs.declared.Omitted.{Omitted}
 use Rattle.bh_spec.specs.Items.{Item, ending}
 use Rattle.bh_stream.specs.Outputs.{Output, written}
 use Rattle.bh_stream.specs.Logs.{Begins, AtEvery, BeforeReads}
-use Rattle.bh_stream.specs.Decoding.{Rest, Moving, DecoderLaws}
+use Rattle.bh_stream.specs.Decoding.{Rest, Moving, Passing, DecoderLaws}
 use Rattle.bh_stream.specs.Jobs.{Owing, SendsRest}
 use Rattle.bh_stream.specs.Points.{one_read, LastPoint, EachPoint, ReadPoint}
 use Rattle.bh_stream.specs.Runs.{Streams}
 use Rattle.bh_stream.specs.declared.streaming.End.TheVariants as end
 use Rattle.bh_stream.proofs.Outputs.{written-append, shown-append, front_of, begins_more}
 use Rattle.bh_stream.proofs.Fronts.{at_more, reads_then_writes}
+use Rattle.bh_stream.proofs.Passings.{pass_moved}
 use Rattle.bh_stream.proofs.Turns.{CallSo, points_read, reads_here, few_reads}
 
 -- a read that answers 0
@@ -72,10 +73,10 @@ module _ {V A R : Type 0} {rest : Rest V} {room : V → ℕ} {moves : Moving V} 
   none_behind_closed : EndsReading closed
   none_behind_closed = ends_reading so.steps x so.open_end
 
-  points_closed : AtEvery (EachPoint rest moves writes v owed (most + one_read)) closed
+  points_closed : AtEvery (EachPoint rest (Passing rest moves) writes v owed (most + one_read)) closed
   points_closed = points_read refuses tells misses laws writes most write_law v owed s w owes holds taking t so x [] refl refl (omega arith)
 
-  reads_closed : BeforeReads (ReadPoint moves writes v owed most) closed
+  reads_closed : BeforeReads (ReadPoint (Passing rest moves) writes v owed most) closed
   reads_closed = reads_here refuses tells misses laws writes most write_law v owed s w owes holds taking t so x
 
   -- too soon
@@ -92,7 +93,7 @@ module _ {V A R : Type 0} {rest : Rest V} {room : V → ℕ} {moves : Moving V} 
     at_reads = reads_closed;
     outcome = (
       quiet_closed,
-      inl (record { end = met_closed; items = so.through.items; state = w; moved = subst (λ (l : List ℕ). moves v l so.through.items w) (sym taken_closed) so.through.moved; missing = h }),
+      inl (record { end = met_closed; items = so.through.items; state = w; moved = subst (λ (l : List ℕ). moves v l so.through.items w) (sym taken_closed) (pass_moved laws so.through.moved); missing = h }),
     );
   }
 
@@ -101,7 +102,7 @@ module _ {V A R : Type 0} {rest : Rest V} {room : V → ℕ} {moves : Moving V} 
     last_items = ending omitted padding ∷ []
 
     -- a point in the last writes
-    last_point : (gone : List ℕ) → Begins gone (written (owes last_items)) → LastPoint rest moves writes v owed (most + one_read) (taken so.steps) (given so.steps ++ gone)
+    last_point : (gone : List ℕ) → Begins gone (written (owes last_items)) → LastPoint rest (Passing rest moves) writes v owed (most + one_read) (taken so.steps) (given so.steps ++ gone)
     last_point gone begins =
         let f = front_of (owes last_items) gone begins.rest begins.split in
         record {
@@ -140,17 +141,17 @@ module _ {V A R : Type 0} {rest : Rest V} {room : V → ℕ} {moves : Moving V} 
           by_front ((BadRead n) ∷ xs) k = absurd k
           by_front ((BadWrite n) ∷ xs) k = by_front xs k
 
-      points_all : Begins (given sends.steps) (written (owes last_items)) → AtEvery (EachPoint rest moves writes v owed (most + one_read)) all
-      points_all begins = at_more (EachPoint rest moves writes v owed (most + one_read)) closed sends.steps points_closed
+      points_all : Begins (given sends.steps) (written (owes last_items)) → AtEvery (EachPoint rest (Passing rest moves) writes v owed (most + one_read)) all
+      points_all begins = at_more (EachPoint rest (Passing rest moves) writes v owed (most + one_read)) closed sends.steps points_closed
           (λ xs back e. inr (
             list_any-append meets_end closed xs ∙ ap (λ (b : Bool). b || met xs) met_closed,
-            subst (λ (l : List ℕ). LastPoint rest moves writes v owed (most + one_read) l (given (closed ++ xs))) (sym (taken_all xs (front_writes xs back e)))
-                (subst (λ (l : List ℕ). LastPoint rest moves writes v owed (most + one_read) (taken so.steps) l) (sym (given_all xs))
+            subst (λ (l : List ℕ). LastPoint rest (Passing rest moves) writes v owed (most + one_read) l (given (closed ++ xs))) (sym (taken_all xs (front_writes xs back e)))
+                (subst (λ (l : List ℕ). LastPoint rest (Passing rest moves) writes v owed (most + one_read) (taken so.steps) l) (sym (given_all xs))
                 (last_point (given xs) (begins_more (given xs) (given sends.steps) (written (owes last_items)) (record { rest = given back; split = ap given e ∙ given-append xs back }) begins))),
           ))
 
-      reads_all : BeforeReads (ReadPoint moves writes v owed most) all
-      reads_all = reads_then_writes (ReadPoint moves writes v owed most) closed sends.steps reads_closed only
+      reads_all : BeforeReads (ReadPoint (Passing rest moves) writes v owed most) all
+      reads_all = reads_then_writes (ReadPoint (Passing rest moves) writes v owed most) closed sends.steps reads_closed only
 
       chain_all : Chain (Either read write) s all u'
       chain_all = joined chain_closed (writes_are_chain read write sends.chain)
@@ -196,7 +197,7 @@ module _ {V A R : Type 0} {rest : Rest V} {room : V → ℕ} {moves : Moving V} 
           omitted = omitted;
           padding = padding;
           state = w;
-          moved = subst (λ (l : List ℕ). moves v l so.through.items w) (sym (taken_all u' (Ok tt) sends sends.steps (only u' (Ok tt) sends))) so.through.moved;
+          moved = subst (λ (l : List ℕ). moves v l so.through.items w) (sym (taken_all u' (Ok tt) sends sends.steps (only u' (Ok tt) sends))) (pass_moved laws so.through.moved);
           whole = whole;
           told = told;
           gave = given_all u' (Ok tt) sends sends.steps ∙ (λ i. (sym so.through.gave) i ++ sends.whole.1 i) ∙ sym (written-append so.through.text (owes last_items)) ∙ ap written (sym (so.through.due last_items));

@@ -2,21 +2,7 @@
 use Rattle.std.proofs.Common.{◌≡◌, ◌⊎◌, List, [], ◌∷◌, ◌++◌, refl, sym, ◌∙◌, ap, subst, append-nil, inl, inr}
 use Rattle.bh_base.specs.Steps.{Step, Read, Write, BadRead, BadWrite, OnlyReads, OnlyWrites}
 use Rattle.bh_stream.specs.Logs.{AtEvery, BeforeReads}
-
--- a front of two lists in a row is a front of the first, or the first and a front of the second
-pub either_front : (xs ys front back : List Step) → xs ++ ys ≡ front ++ back
-    → ((more : List Step) × (xs ≡ front ++ more)) ⊎ ((mid : List Step) × (front ≡ xs ++ mid) × (ys ≡ mid ++ back))
-either_front xs ys [] back e = inl (xs, refl)
-either_front [] ys (f ∷ front) back e = inr (f ∷ front, refl, e)
-either_front (x ∷ xs) ys (f ∷ front) back e =
-    let head : x ≡ f = cc in
-    let tail : xs ++ ys ≡ front ++ back = cc in
-    on head (either_front xs ys front back tail)
-  where
-    on : x ≡ f → ((more : List Step) × (xs ≡ front ++ more)) ⊎ ((mid : List Step) × (front ≡ xs ++ mid) × (ys ≡ mid ++ back))
-        → ((more : List Step) × (x ∷ xs ≡ f ∷ front ++ more)) ⊎ ((mid : List Step) × (f ∷ front ≡ x ∷ xs ++ mid) × (ys ≡ mid ++ back))
-    on h (inl s) = inl (s.0, λ i. h i ∷ s.1 i)
-    on h (inr s) = inr (s.0, (λ i. (sym h) i ∷ s.1 i), s.2)
+use Rattle.bh_stream.proofs.Moving.{front_of_two}
 
 module _ (P : List Step → Type 0) where
   pub at_none : P [] → AtEvery P []
@@ -25,7 +11,7 @@ module _ (P : List Step → Type 0) where
 
   -- calls behind calls
   pub at_more : (xs ys : List Step) → AtEvery P xs → AtEvery (λ front. P (xs ++ front)) ys → AtEvery P (xs ++ ys)
-  at_more xs ys a b front back e = by_case (either_front xs ys front back e)
+  at_more xs ys a b front back e = by_case (front_of_two xs ys front back e)
     where
       by_case : ((more : List Step) × (xs ≡ front ++ more)) ⊎ ((mid : List Step) × (front ≡ xs ++ mid) × (ys ≡ mid ++ back)) → P front
       by_case (inl s) = a front s.0 s.1

@@ -3,12 +3,13 @@ pub mod Fronts
 pub mod Logging
 pub mod ReadLaws
 pub mod Moving
+pub mod Passings
 pub mod Parts
 pub mod Turns
 pub mod Closing
 pub mod LogLaws
 pub mod SameMarks
-pub mod Messages
 pub mod Formats
+pub mod Messages
 pub mod Calls
 pub mod Silent

@@ -1,21 +1,62 @@
--- Texts of messages that begin with the same bytes have the same content there.
-use Rattle.std.proofs.Common.{◌≡◌, ℕ, List, ◌++◌, length, take, sym, ◌∙◌, ap, subst, arith}
+-- Binary messages as a format: one reading; what a call says of messages by what it says of spellings; and texts of messages that begin
+-- with the same bytes have the same content there.
+use Rattle.std.proofs.Common.{◌≡◌, ℕ, List, ◌++◌, length, take, refl, sym, ◌∙◌, ap, subst, arith}
 use Rattle.std.proofs.lemmas.List.{take_all}
+use Rattle.bh_spec.specs.declared.Omitted.{Omitted}
 use Rattle.bh_spec.specs.Bounds.{Bounds}
+use Rattle.bh_spec.specs.Messages.{Message}
 use Rattle.bh_spec.specs.Texts.{Text, bytes_of, content_in}
-use Rattle.bh_spec.specs.Pieces.{CanBecome}
+use Rattle.bh_spec.specs.Pieces.{CanBecome, SomeOf}
 use Rattle.bh_spec.specs.Viable.{IsMessageText}
-use Rattle.bh_spec.specs.Items.{Item, MessageOf}
-use Rattle.bh_spec.proofs.Whole.{one_next}
+use Rattle.bh_spec.specs.Items.{Item, items, MessageOf}
+use Rattle.bh_spec.proofs.Whole.{one_next, one_reading}
 use Rattle.bh_spec.proofs.Marks.{bytes_of-append}
 use Rattle.bh_stream.specs.Outputs.{written, shown_in, weighed}
-use Rattle.bh_stream.specs.Logs.{HasBody}
+use Rattle.bh_base.specs.Steps.{Step, taken}
+use Rattle.bh_stream.specs.Logs.{HasBody, KeepsUp}
 use Rattle.bh_stream.specs.Jobs.{Owing}
-use Rattle.bh_stream.specs.Formats.{ShowsContent}
+use Rattle.bh_stream.specs.Formats.{GivesAlways}
+use Rattle.bh_stream.specs.Messages.{Spelled, IsSpelled, items_in, IsTextOf, ShowsMessages, GivesFronts}
 use Rattle.bh_stream.proofs.Outputs.{weighed_bytes, weighed_content, weighed_front}
 use Rattle.bh_stream.proofs.Moving.{bytes-length}
 use Rattle.bh_stream.proofs.LogLaws.{take_front}
 use Rattle.bh_stream.proofs.SameMarks.{same_content}
+use Rattle.bh_stream.proofs.Formats.{longest_same, unfinished_same, keeps_same}
+
+-- texts of the same bytes are of one message
+pub one_spelling : (L : Bounds) (m n : Spelled) (t u : Text) → IsSpelled L m t → IsSpelled L n u → bytes_of t ≡ bytes_of u → items_in m ≡ items_in n
+one_spelling L m n t u a b e =
+    let same = one_reading L L m.message n.message m.omitted n.omitted m.padding n.padding (bytes_of u) (record { text = t; spelled = a; same = e }) (record { text = u; spelled = b; same = refl }) in
+    λ i. items (same.0 i) (same.1 i) (same.2 i)
+
+some_spelled : (L : Bounds) (t : Text) → IsMessageText L t → SomeOf (IsSpelled L) t
+some_spelled L t h = (record { message = h.0; omitted = h.1; padding = h.2 }, h.3)
+
+some_message : (L : Bounds) (t : Text) → SomeOf (IsSpelled L) t → IsMessageText L t
+some_message L t h = let s = h.0 in (s.message, s.omitted, s.padding, h.1)
+
+-- What was given begins the output, by the spelling of each message.
+pub gives_messages : (L : Bounds) (output : Message → List ℕ) (steps : List Step) → GivesAlways (IsSpelled L) (λ s. output s.message) L.input steps → GivesFronts L output steps
+gives_messages L output steps gives front back e =
+    let h = gives front back e in
+    record {
+      so_far = λ which long longest m text. h.so_far (unfinished_same (SomeOf (IsSpelled L)) (SomeOf (IsTextOf L)) from to front which) long (longest_same (SomeOf (IsTextOf L)) (SomeOf (IsSpelled L)) to from L.input (taken front) long longest)
+          (of m text.spelled.0 text.spelled.1) (record { text = text.text; after = text.after; spelled = text.spelled.2; begins = text.begins });
+      behind = λ ended m text. h.behind ended (of m text.spelled.0 text.spelled.1) (record { text = text.text; spelled = text.spelled.2; same = text.same });
+    }
+  where
+    of : Message → Omitted → ℕ → Spelled
+    of m o z = record { message = m; omitted = o; padding = z }
+
+    to : (t : Text) → SomeOf (IsTextOf L) t → SomeOf (IsSpelled L) t
+    to t h = (of h.0 h.1.0 h.1.1, h.1.2)
+
+    from : (t : Text) → SomeOf (IsSpelled L) t → SomeOf (IsTextOf L) t
+    from t h = let s = h.0 in (s.message, (s.omitted, s.padding, h.1))
+
+-- The content shown keeps up with that of messages.
+pub keeps_messages : (L : Bounds) (Shown : List ℕ → ℕ → Type 0) (most before : ℕ) (steps : List Step) → KeepsUp (SomeOf (IsSpelled L)) Shown most before steps → KeepsUp (IsMessageText L) Shown most before steps
+keeps_messages L Shown most before steps h = keeps_same (IsMessageText L) (SomeOf (IsSpelled L)) (some_spelled L) (some_message L) Shown most before steps h
 
 -- the content of what was written
 written_content : (L : Bounds) (front more : Text) → IsMessageText L (front ++ more) → (n : ℕ) → HasBody (IsMessageText L) (bytes_of front) n → n ≡ content_in front
@@ -31,9 +72,9 @@ written_content L front more spelled n body =
 
 -- A job that owes texts of messages shows the content that these have.
 pub shows_texts : (L : Bounds) (owed : Owing) → ((q : List Item) (t : Text) → MessageOf L q t → (x : Text) × (owed q ≡ weighed x) × IsMessageText L x)
-    → ShowsContent L (HasBody (IsMessageText L)) owed
-shows_texts L owed texts q t h front more split n body =
-    let x = texts q t h in
+    → ShowsMessages L (HasBody (IsMessageText L)) owed
+shows_texts L owed texts m t h front more split n body =
+    let x = texts (items_in m) t (m.message, m.omitted, m.padding, refl, h) in
     let f = weighed_front x.0 front more (sym x.1 ∙ split) in
     let bytes : written front ≡ bytes_of f.0 = sym (ap written f.3) ∙ weighed_bytes f.0 in
     let count = written_content L f.0 f.1 (subst (IsMessageText L) f.2 x.2) n (subst (λ (l : List ℕ). HasBody (IsMessageText L) l n) bytes body) in

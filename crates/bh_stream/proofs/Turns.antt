@@ -9,7 +9,7 @@ use Rattle.bh_spec.specs.Texts.{Text}
 use Rattle.bh_spec.specs.Items.{Item}
 use Rattle.bh_stream.specs.Outputs.{Output}
 use Rattle.bh_stream.specs.Logs.{AtEvery, BeforeReads}
-use Rattle.bh_stream.specs.Decoding.{Rest, Moving, DecoderLaws}
+use Rattle.bh_stream.specs.Decoding.{Rest, Moving, Passing, DecoderLaws}
 use Rattle.bh_stream.specs.Jobs.{Owing}
 use Rattle.bh_stream.specs.Points.{one_read, Point, EachPoint, ReadPoint, Through}
 use Rattle.bh_stream.specs.Runs.{Feeds, PieceEnds, Streams}
@@ -19,6 +19,7 @@ use Rattle.bh_stream.specs.declared.streaming.End.TheVariants as end
 use Rattle.bh_stream.proofs.Outputs.{written-append, shown-append}
 use Rattle.bh_stream.proofs.Fronts.{at_none, at_more, at_both, reads_none, reads_one, reads_then_writes}
 use Rattle.bh_stream.proofs.Moving.{counted-append, counted-few}
+use Rattle.bh_stream.proofs.Passings.{pass_stays, pass_moved, pass_on}
 
 -- What was taken was decoded, and what is due for it was written. No call failed, none met the end, and each read took a byte.
 pub record CallSo {V : Type 0} (rest : Rest V) (room : V → ℕ) (moves : Moving V) (ready : V → Type 0) (writes : Bool) (most : ℕ) {S : Type 0} (read write : S → Step → S → Type 0) (v : V) (owed : Owing)
@@ -30,9 +31,9 @@ pub record CallSo {V : Type 0} (rest : Rest V) (room : V → ℕ) (moves : Movin
   pub asks : Asks one_read steps
   pub only_reads : writes ≡ false → OnlyReads steps
   pub turns : reads steps ≤ length (taken steps)
-  pub points : AtEvery (EachPoint rest moves writes v owed (most + one_read)) steps
-  pub at_reads : BeforeReads (ReadPoint moves writes v owed most) steps
-  pub through : Through moves writes most v owed 0 (taken steps) (given steps) w owes holds
+  pub points : AtEvery (EachPoint rest (Passing rest moves) writes v owed (most + one_read)) steps
+  pub at_reads : BeforeReads (ReadPoint (Passing rest moves) writes v owed most) steps
+  pub through : Through (Passing rest moves) writes most v owed 0 (taken steps) (given steps) w owes holds
   pub is_ready : ready w
   pub fits : (q : List Item) (t : Text) → rest w q t → taking q
 
@@ -54,15 +55,15 @@ or_false false = refl
 
 module _ {V : Type 0} {rest : Rest V} {room : V → ℕ} {moves : Moving V} {ready : V → Type 0} (laws : DecoderLaws rest room moves ready) (writes : Bool) (most : ℕ) where
   -- a point of a call, from one of its parts
-  module _ (v : V) (owed : Owing) (bytes gone : List ℕ) (w : V) (owes : Owing) (holds : ℕ) (through : Through moves writes most v owed 0 bytes gone w owes holds) where
-    pub point_on : (slack : ℕ) (piece more : List ℕ) → slack ≤ one_read → Point moves writes w owes slack piece more → Point moves writes v owed (most + one_read) (bytes ++ piece) (gone ++ more)
+  module _ (v : V) (owed : Owing) (bytes gone : List ℕ) (w : V) (owes : Owing) (holds : ℕ) (through : Through (Passing rest moves) writes most v owed 0 bytes gone w owes holds) where
+    pub point_on : (slack : ℕ) (piece more : List ℕ) → slack ≤ one_read → Point (Passing rest moves) writes w owes slack piece more → Point (Passing rest moves) writes v owed (most + one_read) (bytes ++ piece) (gone ++ more)
     point_on slack piece more small p = record {
       done = bytes ++ p.done;
       pending = p.pending;
       split = ap (λ (l : List ℕ). bytes ++ l) p.split ∙ sym (append_assoc bytes p.done p.pending);
       items = through.items ++ p.items;
       state = p.state;
-      moved = laws.goes_on v w p.state bytes p.done through.items p.items through.moved p.moved;
+      moved = pass_on laws v w p.state bytes p.done through.items p.items through.moved p.moved;
       front = through.text ++ p.front;
       gave = written-append through.text p.front ∙ (λ i. through.gave i ++ p.gave i);
       due = λ q. record {
@@ -73,7 +74,7 @@ module _ {V : Type 0} {rest : Rest V} {room : V → ℕ} {moves : Moving V} {rea
     }
 
     -- nothing was read since
-    pub point_here : (slack : ℕ) → most ≤ slack → Point moves writes v owed slack bytes gone
+    pub point_here : (slack : ℕ) → most ≤ slack → Point (Passing rest moves) writes v owed slack bytes gone
     point_here slack small = record {
       done = bytes;
       pending = [];
@@ -88,7 +89,7 @@ module _ {V : Type 0} {rest : Rest V} {room : V → ℕ} {moves : Moving V} {rea
     }
 
     -- a piece was read, and nothing of it decoded yet
-    pub point_read : (piece : List ℕ) → length piece ≤ one_read → Point moves writes v owed (most + one_read) (bytes ++ piece) gone
+    pub point_read : (piece : List ℕ) → length piece ≤ one_read → Point (Passing rest moves) writes v owed (most + one_read) (bytes ++ piece) gone
     point_read piece small = record {
       done = bytes;
       pending = piece;
@@ -108,7 +109,7 @@ module _ {V A R : Type 0} {rest : Rest V} {room : V → ℕ} {moves : Moving V} 
   pub call_start : (v : V) (owed : Owing) (held : ℕ) (s : S) → held ≡ 0 → ready v → (taking : List Item → Type 0) → ((q : List Item) (t : Text) → rest v q t → taking q)
       → CallSo rest room moves ready writes most read write v owed s v owed held taking s
   call_start v owed held s none_held alive taking fits =
-      let through : Through moves writes most v owed 0 [] [] v owed held = record { items = []; moved = laws.stays v alive; text = []; gave = refl; due = λ q. refl; counts = omega (arith, none_held, counted-few writes []); few = omega (arith, none_held) } in
+      let through : Through (Passing rest moves) writes most v owed 0 [] [] v owed held = record { items = []; moved = pass_stays laws v alive; text = []; gave = refl; due = λ q. refl; counts = omega (arith, none_held, counted-few writes []); few = omega (arith, none_held) } in
       record {
         steps = [];
         chain = none;
@@ -117,8 +118,8 @@ module _ {V A R : Type 0} {rest : Rest V} {room : V → ℕ} {moves : Moving V} 
         asks = tt;
         only_reads = λ e. tt;
         turns = omega arith;
-        points = at_none (EachPoint rest moves writes v owed (most + one_read)) (inl (point_here laws writes most v owed [] [] v owed held through (most + one_read) (omega arith)));
-        at_reads = reads_none (ReadPoint moves writes v owed most);
+        points = at_none (EachPoint rest (Passing rest moves) writes v owed (most + one_read)) (inl (point_here laws writes most v owed [] [] v owed held through (most + one_read) (omega arith)));
+        at_reads = reads_none (ReadPoint (Passing rest moves) writes v owed most);
         through = through;
         is_ready = alive;
         fits = fits;
@@ -136,23 +137,23 @@ module _ {V A R : Type 0} {rest : Rest V} {room : V → ℕ} {moves : Moving V} 
 
     -- no more reads than there was room for bytes
     pub few_reads : reads so.steps ≤ room v
-    few_reads = omega (arith, so.turns, (laws.leads v w (taken so.steps) so.through.items so.through.moved).room_left)
+    few_reads = omega (arith, so.turns, (laws.leads v w (taken so.steps) so.through.items (pass_moved laws so.through.moved)).room_left)
 
     -- the point behind a read of these bytes
-    read_point : (x : Step) (piece : List ℕ) → taken (x ∷ []) ≡ piece → given (x ∷ []) ≡ [] → length piece ≤ one_read → EachPoint rest moves writes v owed (most + one_read) (behind x)
+    read_point : (x : Step) (piece : List ℕ) → taken (x ∷ []) ≡ piece → given (x ∷ []) ≡ [] → length piece ≤ one_read → EachPoint rest (Passing rest moves) writes v owed (most + one_read) (behind x)
     read_point x piece e f small =
-        inl (subst (λ (l : List ℕ). Point moves writes v owed (most + one_read) l (given (behind x))) (sym (taken_on x ∙ ap (λ (l : List ℕ). taken so.steps ++ l) e))
-        (subst (λ (l : List ℕ). Point moves writes v owed (most + one_read) (taken so.steps ++ piece) l) (sym (given_on x f))
+        inl (subst (λ (l : List ℕ). Point (Passing rest moves) writes v owed (most + one_read) l (given (behind x))) (sym (taken_on x ∙ ap (λ (l : List ℕ). taken so.steps ++ l) e))
+        (subst (λ (l : List ℕ). Point (Passing rest moves) writes v owed (most + one_read) (taken so.steps ++ piece) l) (sym (given_on x f))
         (point_read laws writes most v owed (taken so.steps) (given so.steps) w owes holds so.through piece small)))
 
-    pub points_read : (x : Step) (piece : List ℕ) → taken (x ∷ []) ≡ piece → given (x ∷ []) ≡ [] → length piece ≤ one_read → AtEvery (EachPoint rest moves writes v owed (most + one_read)) (behind x)
-    points_read x piece e f small = at_more (EachPoint rest moves writes v owed (most + one_read)) so.steps (x ∷ []) so.points
-        (at_both (λ front. EachPoint rest moves writes v owed (most + one_read) (so.steps ++ front)) x
-        (subst (EachPoint rest moves writes v owed (most + one_read)) (sym (append-nil so.steps)) (so.points so.steps [] (sym (append-nil so.steps))))
+    pub points_read : (x : Step) (piece : List ℕ) → taken (x ∷ []) ≡ piece → given (x ∷ []) ≡ [] → length piece ≤ one_read → AtEvery (EachPoint rest (Passing rest moves) writes v owed (most + one_read)) (behind x)
+    points_read x piece e f small = at_more (EachPoint rest (Passing rest moves) writes v owed (most + one_read)) so.steps (x ∷ []) so.points
+        (at_both (λ front. EachPoint rest (Passing rest moves) writes v owed (most + one_read) (so.steps ++ front)) x
+        (subst (EachPoint rest (Passing rest moves) writes v owed (most + one_read)) (sym (append-nil so.steps)) (so.points so.steps [] (sym (append-nil so.steps))))
         (read_point x piece e f small))
 
-    pub reads_here : (x : Step) → BeforeReads (ReadPoint moves writes v owed most) (behind x)
-    reads_here x = reads_one (ReadPoint moves writes v owed most) so.steps x so.at_reads (point_here laws writes most v owed (taken so.steps) (given so.steps) w owes holds so.through most (omega arith))
+    pub reads_here : (x : Step) → BeforeReads (ReadPoint (Passing rest moves) writes v owed most) (behind x)
+    reads_here x = reads_one (ReadPoint (Passing rest moves) writes v owed most) so.steps x so.at_reads (point_here laws writes most v owed (taken so.steps) (given so.steps) w owes holds so.through most (omega arith))
 
     -- a failed read
     pub call_fault : (u : S) (size : ℕ) → 0 < size → size ≤ one_read → read t (BadRead size) u → Streams rest room moves refuses tells misses writes most read write v owed s end.ReadFault u
@@ -226,14 +227,14 @@ module _ {V A R : Type 0} {rest : Rest V} {room : V → ℕ} {moves : Moving V} 
       none_behind_all : EndsReading all
       none_behind_all = EndsReading-append (behind x) f.steps (ends_reading so.steps x so.open_end) only
 
-      points_all : AtEvery (EachPoint rest moves writes v owed (most + one_read)) all
-      points_all = at_more (EachPoint rest moves writes v owed (most + one_read)) (behind x) f.steps (points_read x piece (append-nil piece) refl small)
-          (λ xs back e. inl (subst (λ (l : List ℕ). Point moves writes v owed (most + one_read) l (given (behind x ++ xs))) (sym (taken_all xs (front_writes xs back e)))
-          (subst (λ (l : List ℕ). Point moves writes v owed (most + one_read) (taken so.steps ++ piece) l) (sym (given_all xs))
+      points_all : AtEvery (EachPoint rest (Passing rest moves) writes v owed (most + one_read)) all
+      points_all = at_more (EachPoint rest (Passing rest moves) writes v owed (most + one_read)) (behind x) f.steps (points_read x piece (append-nil piece) refl small)
+          (λ xs back e. inl (subst (λ (l : List ℕ). Point (Passing rest moves) writes v owed (most + one_read) l (given (behind x ++ xs))) (sym (taken_all xs (front_writes xs back e)))
+          (subst (λ (l : List ℕ). Point (Passing rest moves) writes v owed (most + one_read) (taken so.steps ++ piece) l) (sym (given_all xs))
           (point_on laws writes most v owed (taken so.steps) (given so.steps) w owes holds so.through (length piece) piece (given xs) small (f.points xs back e)))))
 
-      reads_all : BeforeReads (ReadPoint moves writes v owed most) all
-      reads_all = reads_then_writes (ReadPoint moves writes v owed most) (behind x) f.steps (reads_here x) only
+      reads_all : BeforeReads (ReadPoint (Passing rest moves) writes v owed most) all
+      reads_all = reads_then_writes (ReadPoint (Passing rest moves) writes v owed most) (behind x) f.steps (reads_here x) only
 
       quiet_read : IsQuiet (behind x)
       quiet_read = quiet_on so.steps (x ∷ []) so.quiet refl
@@ -255,17 +256,17 @@ module _ {V A R : Type 0} {rest : Rest V} {room : V → ℕ} {moves : Moving V} 
             turns = turns_all;
             points = points_all;
             at_reads = reads_all;
-            through = subst (λ (l : List ℕ). Through moves writes most v owed 0 l (given all) w' owes' holds') (sym (taken_all f.steps only))
-                (subst (λ (l : List ℕ). Through moves writes most v owed 0 (taken so.steps ++ piece) l w' owes' holds') (sym (given_all f.steps)) (record {
+            through = subst (λ (l : List ℕ). Through (Passing rest moves) writes most v owed 0 l (given all) w' owes' holds') (sym (taken_all f.steps only))
+                (subst (λ (l : List ℕ). Through (Passing rest moves) writes most v owed 0 (taken so.steps ++ piece) l w' owes' holds') (sym (given_all f.steps)) (record {
                   items = so.through.items ++ two.items;
-                  moved = laws.goes_on v w w' (taken so.steps) piece so.through.items two.items so.through.moved two.moved;
+                  moved = pass_on laws v w w' (taken so.steps) piece so.through.items two.items so.through.moved two.moved;
                   text = so.through.text ++ two.text;
                   gave = written-append so.through.text two.text ∙ (λ i. so.through.gave i ++ two.gave i);
                   due = λ q. ap owed (append_assoc so.through.items two.items q) ∙ so.through.due (two.items ++ q) ∙ ap (λ (l : Output). so.through.text ++ l) (two.due q) ∙ sym (append_assoc so.through.text two.text (owes' q));
                   counts = omega (arith, shown-append so.through.text two.text, counted-append writes so.through.items two.items, so.through.counts, two.counts);
                   few = two.few;
                 }));
-            is_ready = laws.is_ready w w' piece two.items so.is_ready two.moved;
+            is_ready = laws.is_ready w w' piece two.items so.is_ready (pass_moved laws two.moved);
             fits = o.2;
           }
 
@@ -308,7 +309,7 @@ module _ {V A R : Type 0} {rest : Rest V} {room : V → ℕ} {moves : Moving V} 
                   split = taken_all f.steps only ∙ ap (λ (l : List ℕ). taken so.steps ++ l) bad.split ∙ sym (append_assoc (taken so.steps) bad.before bad.others);
                   items = so.through.items ++ bad.items;
                   state = bad.state;
-                  moved = laws.goes_on v w bad.state (taken so.steps) bad.before so.through.items bad.items so.through.moved bad.moved;
+                  moved = laws.goes_on v w bad.state (taken so.steps) bad.before so.through.items bad.items (pass_moved laws so.through.moved) bad.moved;
                   refused = bad.refused;
                 };
                 read_to = record { front = so.steps; last = x; back = f.steps; split = append_assoc so.steps (x ∷ []) f.steps; is_read = tt; behind = only; few = omega (arith, length-append (taken so.steps) bad.before) };

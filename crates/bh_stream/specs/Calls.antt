@@ -1,5 +1,5 @@
 -- How a call that reads a message from a stream ended: `output` is what it writes of a message.
-use Rattle.std.specs.Prelude.{◌≡◌, ◌≤◌, ◌+◌, ℕ, true, List, ◌∷◌, [], ◌++◌, length, IfSome}
+use Rattle.std.specs.Prelude.{◌≡◌, ◌≤◌, ◌+◌, ℕ, true, List, ◌∷◌, [], ◌++◌, length, Option, IfSome}
 use Rattle.bh_spec.specs.declared.Omitted.{Omitted}
 use Rattle.bh_spec.specs.declared.Summary.{Summary}
 use Rattle.bh_spec.specs.declared.Refusal.{Refusal}
@@ -13,7 +13,7 @@ use Rattle.bh_base.specs.Steps.{Step, Chain, Either, taken, given, met, reads, A
 use Rattle.bh_stream.specs.Logs.{ReadsTo}
 use Rattle.bh_stream.specs.Decoding.{Rest, Moving}
 use Rattle.bh_stream.specs.Points.{one_read}
-use Rattle.bh_stream.specs.Formats.{GivesFronts}
+use Rattle.bh_stream.specs.Messages.{GivesFronts}
 use Rattle.bh_stream.specs.declared.streaming.End.{End}
 use Rattle.bh_stream.specs.declared.streaming.End.TheVariants as end
 
@@ -42,18 +42,24 @@ StreamEnds L output (end.Refused r) steps = IsQuiet steps × IsRefusal L r steps
 StreamEnds L output end.ReadFault steps = StopsAt is_bad_read steps
 StreamEnds L output end.WriteFault steps = StopsAt is_bad_write steps
 
--- The port went through these calls, whether it tells a log or not. Each read asked for 1 to 8,192 bytes; there was one read more
--- than there were bytes at most, and one more than the limit of the input. Nothing was asked behind the end. At every point of the
--- calls what was given begins the output of every message that continues what was taken.
-pub record StreamCall (L : Bounds) (output : Message → List ℕ) {S : Type 0} (read write : S → Step → S → Type 0) (steps : List Step)
-    (s : S) (r : End Summary Refusal) (t : S) : Type 0 where
+-- What is said of each call over a port, whatever it reads and writes. The port went through these calls, whether it tells a log or not.
+-- Each read asked for 1 to 8,192 bytes; there was one read more than there were bytes at most, and one more than the limit of the input.
+-- Nothing was asked behind the end. `Gives` says what was given at every point, and `Ends` how the call ended.
+pub record PortCall {E : Type 0} (limit : Option ℕ) (Gives : List Step → Type 0) (Ends : E → List Step → Type 0) {S : Type 0}
+    (read write : S → Step → S → Type 0) (steps : List Step) (s : S) (r : E) (t : S) : Type 0 where
   pub chain : Chain (Either read write) s steps t
   pub asks : Asks one_read steps
   pub turns : reads steps ≤ length (taken steps) + 1
-  pub bound : IfSome L.input (λ limit. reads steps ≤ limit + 1)
+  pub bound : IfSome limit (λ most. reads steps ≤ most + 1)
   pub none_behind : EndsReading steps
-  pub gives : GivesFronts L output steps
-  pub ends : StreamEnds L output r steps
+  pub gives : Gives steps
+  pub ends : Ends r steps
+
+-- A call that reads a message: at every point of the calls what was given begins the output of every message that continues what was
+-- taken.
+abbrev pub StreamCall : Bounds → (Message → List ℕ) → {S : Type 0} → (S → Step → S → Type 0) → (S → Step → S → Type 0) → List Step → S
+    → End Summary Refusal → S → Type 0
+StreamCall L output read write steps s r t = PortCall L.input (GivesFronts L output) (StreamEnds L output) read write steps s r t
 
 -- ---- what has to be known of a decoder at the start
 

@@ -6,4 +6,5 @@ pub mod Points
 pub mod Jobs
 pub mod Runs
 pub mod Formats
+pub mod Messages
 pub mod Calls

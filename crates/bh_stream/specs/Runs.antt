@@ -6,7 +6,7 @@ use Rattle.bh_spec.specs.Items.{Item, ending}
 use Rattle.bh_base.specs.Steps.{Step, Chain, Either, taken, given, met, reads, Asks, EndsReading, OnlyReads, IsQuiet, StopsAt, is_bad_read, is_bad_write}
 use Rattle.bh_stream.specs.Outputs.{written}
 use Rattle.bh_stream.specs.Logs.{AtEvery, BeforeReads, ReadsTo}
-use Rattle.bh_stream.specs.Decoding.{Rest, Moving}
+use Rattle.bh_stream.specs.Decoding.{Rest, Moving, Passing}
 use Rattle.bh_stream.specs.Jobs.{Owing}
 use Rattle.bh_stream.specs.Points.{one_read, Point, EachPoint, ReadPoint, Through, IsStopped}
 use Rattle.bh_stream.specs.declared.feeding.Fed.{Fed}
@@ -18,7 +18,7 @@ use Rattle.bh_stream.specs.declared.streaming.End.TheVariants as end
 abbrev pub PieceEnds : {V R : Type 0} → Rest V → Moving V → (V → List ℕ → R → Type 0) → Bool → ℕ → V → Owing → ℕ → List ℕ → Fed R → V
     → Owing → ℕ → (List Item → Type 0) → List Step → Type 0
 PieceEnds rest moves refuses writes most v owed held piece fed.All w owes holds taking steps =
-    IsQuiet steps × Through moves writes most v owed held piece (given steps) w owes holds
+    IsQuiet steps × Through (Passing rest moves) writes most v owed held piece (given steps) w owes holds
     × ((q : List Item) (t : Text) → rest w q t → taking q)
 PieceEnds rest moves refuses writes most v owed held piece (fed.Refused r) w owes holds taking steps = IsQuiet steps
     × IsStopped moves refuses v piece r
@@ -32,7 +32,7 @@ pub record Feeds {V R : Type 0} (rest : Rest V) (moves : Moving V) (refuses : V 
   pub steps : List Step
   pub chain : Chain step s steps t
   pub alone : writes ≡ false → steps ≡ []
-  pub points : AtEvery (λ front. Point moves writes v owed (length piece) piece (given front)) steps
+  pub points : AtEvery (λ front. Point (Passing rest moves) writes v owed (length piece) piece (given front)) steps
   pub outcome : PieceEnds rest moves refuses writes most v owed held piece r w owes holds taking steps
 
 -- The end was met, the bytes are a message of these items, and all that was owed for them was given.
@@ -84,6 +84,6 @@ pub record Streams {V A R : Type 0} (rest : Rest V) (room : V → ℕ) (moves : 
   pub bound : reads steps ≤ room v + 1
   pub none_behind : EndsReading steps
   pub only_reads : writes ≡ false → OnlyReads steps
-  pub points : AtEvery (EachPoint rest moves writes v owed (most + one_read)) steps
-  pub at_reads : BeforeReads (ReadPoint moves writes v owed most) steps
+  pub points : AtEvery (EachPoint rest (Passing rest moves) writes v owed (most + one_read)) steps
+  pub at_reads : BeforeReads (ReadPoint (Passing rest moves) writes v owed most) steps
   pub outcome : CallEnds rest moves refuses tells misses v owed r steps

@@ -71,7 +71,7 @@ pub trait Decode {
     /// Decodes some bytes of the piece.
     fn push<'p>(&mut self, piece: &'p [u8]) -> Pushed<'p, Self::Refusal>
         requires ready { ready self.old }
-        ensures pushed { IsPushed moves shows refuses self.old piece.now result self.new }
+        ensures pushed { IsPushed rest moves shows refuses self.old piece.now result self.new }
         ensures limits { limits self.new ≡ limits self.old };
 
     /// Is what was pushed a message?

@@ -11,7 +11,7 @@ loop-rest-init g c = record {
 }
 
 pub returns-in-Need-clause-feeds : goal.returns-in-Need-clause-feeds
-returns-in-Need-clause-feeds g c = fed_need g.D.Decode.refuses g.met.D.Decode.laws _ _ _ _ _ _ _ c.loop-rest.rest.now c.loop-rest.decoder _ _ _ c.loop-rest.sink c.loop-rest.invariant.so_far c.push.new.self c.in-Need.ensures.pushed
+returns-in-Need-clause-feeds g c = fed_need g.D.Decode.refuses g.met.D.Decode.laws _ _ _ _ _ _ _ c.loop-rest.rest.now c.loop-rest.decoder _ _ _ c.loop-rest.sink c.loop-rest.invariant.so_far c.push.new.self c.in-Need.ensures.pushed.0 c.in-Need.ensures.pushed.1
 
 pub returns-in-Refused-clause-feeds : goal.returns-in-Refused-clause-feeds
 returns-in-Refused-clause-feeds g c = fed_refused g.D.Decode.refuses g.met.D.Decode.laws _ _ _ _ _ _ _ c.loop-rest.rest.now c.loop-rest.decoder _ _ _ c.loop-rest.sink c.loop-rest.invariant.so_far c.push.new.self _ _ _ _ c.in-Refused.ensures.pushed

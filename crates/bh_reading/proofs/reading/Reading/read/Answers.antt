@@ -1,7 +1,7 @@
-use Rattle.std.proofs.Common.{◌≤◌, [], length, sym, subst}
+use Rattle.std.proofs.Common.{◌≤◌, length, sym, subst}
 use Rattle.bh_stream.specs.declared.traits.Event.TheVariants as events
-use Rattle.bh_reading.specs.Readings.{Counted, Moved, IsReady, refuses}
-use Rattle.bh_reading.proofs.ReadingOn.{EventOn, ContentOn, need_on, interim_on, head_on, trailers_on, content_on, few_bytes, refused_first}
+use Rattle.bh_reading.specs.Readings.{Counted, IsReady, refuses}
+use Rattle.bh_reading.proofs.ReadingOn.{NeedOn, EventOn, ContentOn, need_on, interim_on, head_on, trailers_on, content_on, few_bytes, refused_first}
 use Rattle.bh_reading.proofs.reading.Reading.read.Goals as goal
 
 pub returns-in-Need-clause-pushed : goal.returns-in-Need-clause-pushed
@@ -9,7 +9,7 @@ returns-in-Need-clause-pushed c =
     let i = c.self.inside in
     let v : Counted = record { held = i.decoder; kind = i.kind; lines = i.lines; content = i.content } in
     let w : Counted = record { held = c.push.new.self; kind = i.kind; lines = i.lines; content = i.content } in
-    subst (λ (u : Counted). Moved u c.args.piece.now [] w) c.self.view_is (need_on v (subst IsReady (sym c.self.view_is) c.requires.ready) c.args.piece.now c.push.new.self c.in-Need.ensures.hands)
+    subst (λ (u : Counted). NeedOn u c.args.piece.now w) c.self.view_is (need_on v (subst IsReady (sym c.self.view_is) c.requires.ready) c.args.piece.now c.push.new.self c.in-Need.ensures.hands)
 
 pub returns-in-Interim-clause-pushed : goal.returns-in-Interim-clause-pushed
 returns-in-Interim-clause-pushed c =
