@@ -4,9 +4,9 @@ use Rattle.bh_spec.specs.Bounds.{Bounds}
 use Rattle.bh_spec.specs.Texts.{Text, content_in}
 use Rattle.bh_spec.specs.Residuals.{IsResidual}
 use Rattle.bh_spec.specs.Items.{Item, interim_response, head, content_byte, trailer_section, ending}
-use Rattle.bh_stream.specs.Decoding.{content_items, Leads, DecoderLaws}
+use Rattle.bh_stream.specs.Decoding.{content_items, IsAlive, Leads, DecoderLaws}
 use Rattle.bh_reading.specs.Readings as binary
-use Rattle.bh_reading.specs.ReadingLaws.{reading_laws}
+use Rattle.bh_reading.specs.ReadingLaws.{alive_behind, reading_laws}
 use Rattle.h1_judge.specs.Courses.{cleaned_item, named_behind, cleaned_items, Course, behind_item, behind, item_form, AreFree}
 use Rattle.h1_judge.specs.Views.{JudgedView, rest, limits, room, Moved, AreFitting, IsReady}
 
@@ -68,11 +68,14 @@ leads v w x i m =
         back = λ q t a.
             (m.raw ++ a.0, ap (λ (p : List Item). i ++ p) a.1 ∙ sym (cleaned_on v w x i m a.0), h.residual.back a.0 t a.2);
       };
-      items_left = cleaned_items w.course.named h.items_left;
-      text_left = h.text_left;
-      alive = (h.items_left, refl, h.alive);
       room_left = h.room_left;
     }
+
+-- something completes the message behind all that was taken
+pub alive_there : (v w : JudgedView) (x : List ℕ) (i : List Item) → Moved v x i w → IsAlive rest w
+alive_there v w x i m =
+    let alive = alive_behind v.reading w.reading x m.raw m.moved in
+    (cleaned_items w.course.named alive.0, alive.1, (alive.0, refl, alive.2))
 
 stays : (v : JudgedView) → IsReady v → Moved v [] [] v
 stays v r = record {

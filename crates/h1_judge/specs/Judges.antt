@@ -3,9 +3,8 @@ use Rattle.std.specs.Prelude.{ℕ, ◌≡◌, ◌<◌, ◌≤◌, ◌+◌, ◌-�
 use Rattle.bh_spec.specs.declared.NoForm.{NoForm}
 use Rattle.bh_spec.specs.Bounds.{Bounds}
 use Rattle.bh_spec.specs.Messages.{Field}
-use Rattle.bh_spec.specs.Items.{Item, head, content_byte, Head}
-use Rattle.bh_model.specs.Lines.{FieldsView}
-use Rattle.bh_push.specs.Hands.{Held}
+use Rattle.bh_spec.specs.Items.{Item, content_byte}
+use Rattle.bh_model.specs.Lines.{FieldsView, lines_room}
 use Rattle.bh_reading.specs.Readings.{Counted as ReadingView}
 use Rattle.h1_spec.specs.declared.Framing1.{Framing1}
 use Rattle.h1_spec.specs.declared.Framing1.TheVariants.{Empty, Counted, Chunked, ToEnd}
@@ -53,6 +52,21 @@ pub record IsSound (L : Bounds) (j : Judge) : Type 0 where
 abbrev pub HasRoomFor : Judge → Item → Type 0
 HasRoomFor j item = (L : Bounds) × IsSound L j × IsFitting L item
 
+-- there is room for these lines, and for their names
+pub record HasRoomOf (j : Judge) (fields : List Field) : Type 0 where
+  pub names : lines_room fields ≤ j.hops.room
+  pub lines : lines_room fields ≤ room_in j.cleaned
+  pub count : length fields ≤ count_in j.cleaned
+
+-- the names were read, and these are the cleaned lines
+pub record IsCleaned (v : Judge) (named : List (List ℕ)) (own : List Field) (w : Judge) : Type 0 where
+  pub to_head : w.to_head ≡ v.to_head
+  pub framing : w.framing ≡ v.framing
+  pub counted : w.counted ≡ v.counted
+  pub names : w.hops.names ≡ named
+  pub cleaned : w.cleaned.lines ≡ own
+  pub room : KeepsRoom v w
+
 -- how many bytes may come before it is judged: one more than its body may still have
 abbrev pub IsShort : Framing1 → ℕ → ℕ → Type 0
 IsShort Empty n long = long ≤ 1
@@ -93,10 +107,6 @@ pub record Leaves (v w : Judge) : Type 0 where
   pub to_head : w.to_head ≡ v.to_head
   pub hops : w.hops ≡ v.hops
   pub cleaned : w.cleaned ≡ v.cleaned
-
--- the decoder shows a head for whose section there is room
-abbrev pub IsHeadShown : Judge → Held → Type 0
-IsHeadShown j held = (of : Head) × (fields : List Field) × (held.head ≡ Some of) × (held.lines ≡ Some fields) × HasRoomFor j (head of fields)
 
 -- the first bytes of a piece, some of them if it has any
 pub record IsFront (piece front : List ℕ) : Type 0 where

@@ -1,18 +1,20 @@
 //! What is kept for the judgement.
-ghost use Rattle.std.specs.Prelude.{◌≡◌, ◌<◌, ◌≤◌, false, None, Some, IfOk, List, length, min, take};
+ghost use Rattle.std.specs.Prelude.{◌≡◌, ◌<◌, ◌≤◌, false, All, IsTrue, None, Some, IfOk, List, length, min, take};
 ghost use Rattle.bh_spec.specs.Bounds.{Bounds};
-ghost use Rattle.bh_spec.specs.Messages.{Field};
-ghost use Rattle.bh_spec.specs.Items.{interim_response, head, trailer_section, Head, of_request, of_response};
+ghost use Rattle.bh_spec.specs.Messages.{Start, request};
+ghost use Rattle.bh_model.specs.Values.{control_lent};
+ghost use Rattle.bh_spec.specs.Items.{interim_response, head, trailer_section, of_request, of_response};
 ghost use Rattle.h1_spec.specs.Cleaning.{hops as hops_named, clean, clean_trailers, says_host};
-ghost use Rattle.h1_spec.specs.Moments.{of_end, first_of as first_form};
-ghost use Rattle.h1_judge.specs.Courses.{start_of, start_course};
-ghost use Rattle.h1_judge.specs.Views.{IsFitting};
-ghost use Rattle.h1_judge.specs.Judges.{course_of, HasRoom, KeepsRoom, IsCounting, IsSound, HasRoomFor, IsShort, Judges, CountsContent, Leaves, IsHeadShown, IsFront};
+ghost use Rattle.h1_spec.specs.Framing.{lengths};
+ghost use Rattle.h1_spec.specs.Http1Text.{is_length};
+ghost use Rattle.h1_spec.specs.Moments.{announced, of_end, first_of as first_form};
+ghost use Rattle.h1_judge.specs.Stubs.{IsNamed, status_in};
+ghost use Rattle.h1_judge.specs.Courses.{start_course};
+ghost use Rattle.h1_judge.specs.Judges.{course_of, IsCounting, IsSound, HasRoomFor, HasRoomOf, IsCleaned, IsShort, Judges, CountsContent, Leaves, IsFront};
 
 use crate::stubs::{Hops, announced_by, clean_into, clean_trailers_into, form_of_interim, form_of_request, form_of_response, form_of_trailers};
 use bh_base::NoMemory;
-use bh_model::{Fields, Limits, NoForm};
-use bh_push::Decoder;
+use bh_model::{ControlView, Fields, Limits, NoForm};
 use h1_rules::Framing1;
 use std::alloc::Global;
 
@@ -68,35 +70,60 @@ impl Judge {
         ensures { Judges self.old (interim_response status fields.now.lines)
             (clean (hops_named fields.now.lines) false fields.now.lines) result self.new }
     {
-        self.hops.read(fields);
-        clean_into(fields, &self.hops, false, &mut self.cleaned);
+        self.clean_header(fields, false);
         form_of_interim(status, fields, &self.cleaned)
     }
 
-    /// Judges a head, and keeps what it says of the body.
-    pub fn head(&mut self, decoder: &Decoder) -> Option<NoForm>
-        requires { IsHeadShown self.old decoder.now }
-        ensures { (of : Head) (fields : List Field) → decoder.now.head ≡ Some of → decoder.now.lines ≡ Some fields
-            → Judges self.old (head of fields) (clean (hops_named fields) (says_host (start_of of)) fields) result self.new }
+    /// Judges the head of a request, and keeps what it says of the body.
+    pub fn request(&mut self, control: ControlView<'_>, fields: &Fields) -> Option<NoForm>
+        requires { HasRoomFor self.old (head (of_request (control_lent control)) fields.now.lines) }
+        ensures { Judges self.old (head (of_request (control_lent control.entry)) fields.now.lines)
+            (clean (hops_named fields.now.lines) (says_host (request (control_lent control.entry))) fields.now.lines) result self.new }
     {
-        let fields = decoder.fields();
-        self.hops.read(fields);
-        let form = match decoder.control() {
-            Some(control) => {
-                let says_host = !control.authority.is_empty();
-                clean_into(fields, &self.hops, says_host, &mut self.cleaned);
-                form_of_request(control, fields, &self.cleaned)
-            }
-            None => {
-                clean_into(fields, &self.hops, false, &mut self.cleaned);
-                form_of_response(fields, &self.cleaned)
-            }
-        };
-        if form.is_none() {
-            self.framing = announced_by(self.to_head, decoder.status(), fields);
-            self.counted = 0;
+        self.clean_header(fields, !control.authority.is_empty());
+        if let Some(form) = form_of_request(control, fields, &self.cleaned) {
+            return Some(form);
         }
-        form
+        self.announce(None, fields);
+        None
+    }
+
+    /// Judges the head of a response, and keeps what it says of the body.
+    pub fn response(&mut self, status: u16, fields: &Fields) -> Option<NoForm>
+        requires { HasRoomFor self.old (head (of_response status) fields.now.lines) }
+        ensures { Judges self.old (head (of_response status) fields.now.lines)
+            (clean (hops_named fields.now.lines) false fields.now.lines) result self.new }
+    {
+        self.clean_header(fields, false);
+        if let Some(form) = form_of_response(fields, &self.cleaned) {
+            return Some(form);
+        }
+        self.announce(Some(status), fields);
+        None
+    }
+
+    /// Cleans a header section, or the section of an interim response, by its own hops.
+    fn clean_header(&mut self, fields: &Fields, says_host: bool)
+        requires room { HasRoomOf self.old fields.now.lines }
+        requires named { All IsNamed fields.now.lines }
+        ensures { IsCleaned self.old (hops_named fields.now.lines) (clean (hops_named fields.now.lines) says_host fields.now.lines) self.new }
+    {
+        self.hops.read(fields);
+        clean_into(fields, &self.hops, says_host, &mut self.cleaned);
+    }
+
+    /// Keeps which body a head without a fault says.
+    fn announce(&mut self, status: Option<u16>, fields: &Fields)
+        requires { IsTrue (is_length (lengths fields.now.lines)) }
+        ensures framing { (start : Start) → status_in start ≡ status → self.new.framing ≡ announced self.old.to_head start fields.now.lines }
+        ensures counting { IsCounting self.new.framing self.new.counted }
+        ensures counted { self.new.counted ≡ 0 }
+        ensures to_head { self.new.to_head ≡ self.old.to_head }
+        ensures hops { self.new.hops ≡ self.old.hops }
+        ensures cleaned { self.new.cleaned ≡ self.old.cleaned }
+    {
+        self.framing = announced_by(self.to_head, status, fields);
+        self.counted = 0;
     }
 
     /// Judges a trailer section. Nothing is judged behind it.
