@@ -1,4 +1,5 @@
 pub mod Cuts
+pub mod Room
 pub mod Spanned
 pub mod Parsed
 pub mod Ends

@@ -1,15 +1,16 @@
 -- Cookies in one line, value by value and line by line.
-use Rattle.std.proofs.Common.{drop, slice_get, Some, ◌≡◌, ◌≤◌, ◌+◌, ℕ, Bool, true, false, cond, not, ◌||◌, List, [], ◌∷◌, ◌++◌, map, filter, flat_map, length, codes, bytes_eq, refl, sym, ap, ap₂, ◌∙◌, append_assoc, append-nil, arith}
+use Rattle.std.specs.Prelude.{IsSomeAnd}
+use Rattle.std.proofs.Common.{drop, slice_get, Option, Some, option_map, ◌<◌, subst, ◌≡◌, ◌≤◌, ◌+◌, ℕ, Bool, true, false, cond, not, nat_eq, ◌||◌, List, [], ◌∷◌, ◌++◌, map, filter, flat_map, length, codes, bytes_eq, refl, sym, ap, ap₂, ◌∙◌, append_assoc, append-nil, arith, ne_eqb}
 use Rattle.std.proofs.lemmas.Bool.{cond-true, cond-false, false≢true}
 use Rattle.std.proofs.lemmas.List.{length-append}
 use Rattle.std.proofs.lemmas.List.Elements.{All-head, All-tail}
 use Rattle.bh_spec.specs.Messages.{Field}
-use Rattle.bh_model.specs.Lines.{line_room, lines_room}
+use Rattle.bh_model.specs.Lines.{FieldsView, line_room, lines_room, value_grown_by}
 use Rattle.h1_spec.specs.Cleaning.{is_empty, is_among, values_of, without, cookie, crumbs, one_cookie}
 use Rattle.h1_spec.proofs.Lists.{same_name}
 use Rattle.h1_spec.proofs.Cleaned.{LacksName, lacks_name, without_lacks}
 use Rattle.h1_rules.proofs.Values.{drop_line}
-use Rattle.h1_rules.specs.Own.{is_cookie, with_crumb, own_line, own_lines, is_dropped}
+use Rattle.h1_rules.specs.Own.{is_cookie, with_crumb, crumb_bytes, own_line, own_lines, is_dropped}
 
 by_test : {P : Type 0} (b : Bool) → (b ≡ true → P) → (b ≡ false → P) → P
 by_test true f g = f refl
@@ -275,3 +276,90 @@ own_room names value fields e =
     let room = ap lines_room same in
     let count = ap (λ (fs : List Field). length fs) same in
     (omega (arith, room, one_room (without names fields), without_room names fields), omega (arith, count, one_count (without names fields), without_count names fields))
+
+-- ---- the values, in the line that was begun
+
+joined_bytes : (so_far value : List ℕ) → with_crumb so_far value ≡ so_far ++ crumb_bytes (not (is_empty so_far)) value
+joined_bytes [] [] = refl
+joined_bytes [] (first ∷ more) = refl
+joined_bytes (byte ∷ rest) [] = sym (append-nil (byte ∷ rest))
+joined_bytes (byte ∷ rest) (first ∷ more) = refl
+
+joined_some : (so_far value : List ℕ) → not (is_empty so_far) || not (is_empty value) ≡ not (is_empty (with_crumb so_far value))
+joined_some [] value = refl
+joined_some (byte ∷ rest) [] = refl
+joined_some (byte ∷ rest) (first ∷ more) = refl
+
+longer : (a b : List ℕ) → length a ≤ length (with_crumb a b)
+longer [] b = omega arith
+longer (x ∷ a) [] = omega arith
+longer (x ∷ a) (y ∷ b) = omega (arith, length-append (x ∷ a) (codes "; " ++ (y ∷ b)))
+
+-- A value stands in the line that is being made since a start, and with what is left it is all.
+pub record IsJoining (start to : FieldsView) (some : Bool) (left all : List ℕ) : Type 0 where
+  pub value : List ℕ
+  pub making : to.making ≡ Some (record { name = cookie; value = value })
+  pub stands : some ≡ not (is_empty value)
+  pub joined : with_crumb value left ≡ all
+  pub room : to.spare + length value ≡ start.spare
+  pub lines : to.lines ≡ start.lines
+  pub free : to.free ≡ start.free
+
+pub none_joined : (to : FieldsView) (all : List ℕ) → to.making ≡ Some (record { name = cookie; value = [] }) → IsJoining to to false all all
+none_joined to all e = record { value = []; making = e; stands = refl; joined = refl; room = omega arith; lines = refl; free = refl }
+
+-- a line is being made, which has a name
+pub some_made : (making : Option Field) (value : List ℕ) → making ≡ Some (record { name = cookie; value = value }) → IsSomeAnd making (λ line. 0 < length line.name)
+some_made making value e = subst (λ (o : Option Field). IsSomeAnd o (λ line. 0 < length line.name)) (sym e) (omega arith)
+
+-- there is room for the next value
+pub crumb_fits : (start to : FieldsView) (some : Bool) (value : List ℕ) (values more : List (List ℕ)) (all : List ℕ) → values ≡ value ∷ more
+    → IsJoining start to some (crumbs values) all → length all ≤ start.spare → length (crumb_bytes some value) ≤ to.spare
+crumb_fits start to some value values more all e h fits =
+    let whole = ap (λ (b : List ℕ). length b) (crumb_more h.value value values more all e h.joined) in
+    let grown = ap (λ (b : List ℕ). length b) (joined_bytes h.value value) in
+    let same = ap (λ (b : Bool). length (crumb_bytes b value)) h.stands in
+    omega (arith, whole, grown, same, longer (with_crumb h.value value) (crumbs more), length-append h.value (crumb_bytes (not (is_empty h.value)) value), h.room, fits)
+
+-- and it was put
+pub crumb_put : (start to grown : FieldsView) (some : Bool) (value : List ℕ) (values more : List (List ℕ)) (all : List ℕ) → values ≡ value ∷ more
+    → IsJoining start to some (crumbs values) all → grown.lines ≡ to.lines → grown.making ≡ option_map (value_grown_by (crumb_bytes some value)) to.making
+    → grown.spare + length (crumb_bytes some value) ≡ to.spare → grown.free ≡ to.free → IsJoining start grown (some || not (is_empty value)) (crumbs more) all
+crumb_put start to grown some value values more all e h lines making spare free =
+    let bytes = joined_bytes h.value value in
+    let length_of = ap (λ (b : List ℕ). length b) bytes in
+    let same = ap (λ (b : Bool). length (crumb_bytes b value)) h.stands in
+    record {
+      value = with_crumb h.value value;
+      making = making ∙ ap (option_map (value_grown_by (crumb_bytes some value))) h.making
+          ∙ ap (λ (b : Bool). Some (record { name = cookie; value = h.value ++ crumb_bytes b value })) h.stands
+          ∙ ap (λ (v : List ℕ). Some (record { name = cookie; value = v })) (sym bytes);
+      stands = ap (λ (b : Bool). b || not (is_empty value)) h.stands ∙ joined_some h.value value;
+      joined = crumb_more h.value value values more all e h.joined;
+      room = omega (arith, length_of, same, length-append h.value (crumb_bytes (not (is_empty h.value)) value), h.room, spare);
+      lines = lines ∙ h.lines;
+      free = free ∙ h.free;
+    }
+
+empty_test : (value : List ℕ) → nat_eq (length value) 0 ≡ is_empty value
+empty_test [] = refl
+empty_test (byte ∷ rest) = ne_eqb (length (byte ∷ rest)) 0 (λ e. omega arith)
+
+pub more_begun : (start to : FieldsView) (some empty : Bool) (value left all : List ℕ) → empty ≡ nat_eq (length value) 0
+    → IsJoining start to (some || not (is_empty value)) left all → IsJoining start to (some || not empty) left all
+more_begun start to some empty value left all e h = subst (λ (b : Bool). IsJoining start to (some || not b) left all) (sym (e ∙ empty_test value)) h
+
+-- All values were put.
+pub record IsJoined (start to : FieldsView) (all : List ℕ) : Type 0 where
+  pub making : to.making ≡ Some (record { name = cookie; value = all })
+  pub room : to.spare + length all ≡ start.spare
+
+pub all_joined : (start to : FieldsView) (some : Bool) (values : List (List ℕ)) (all : List ℕ) → values ≡ [] → IsJoining start to some (crumbs values) all → IsJoined start to all
+all_joined start to some values all e h =
+    let same : h.value ≡ all = sym (with_none h.value) ∙ ap (λ (vs : List (List ℕ)). with_crumb h.value (crumbs vs)) (sym e) ∙ h.joined in
+    let long = ap (λ (b : List ℕ). length b) same in
+    record { making = h.making ∙ ap (λ (v : List ℕ). Some (record { name = cookie; value = v })) same; room = omega (arith, long, h.room) }
+  where
+    with_none : (v : List ℕ) → with_crumb v [] ≡ v
+    with_none [] = refl
+    with_none (x ∷ v) = refl

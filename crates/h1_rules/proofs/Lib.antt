@@ -4,3 +4,5 @@ pub mod HopLemmas
 pub mod TargetLemmas
 pub mod Cookies
 pub mod Adding
+pub mod FramingLemmas
+pub mod Rules

@@ -33,15 +33,20 @@ IsLengthAnswer fields None = IsCounted fields → ⊥
 IsLengthAnswer fields (Some None) = lengths fields ≡ []
 IsLengthAnswer fields (Some (Some n)) = (value : List ℕ) × (lengths fields ≡ value ∷ []) × IsLength value × (n ≡ digits_value 10 value)
 
+-- the status that a start says, if it is a response's
+abbrev pub status_said : StartLine → Option ℕ
+status_said (request_line method target) = None
+status_said (status_line status) = Some status
+
 -- the start says that there is no body, whatever the fields say
-abbrev pub is_empty_by : Bool → StartLine → Bool
-is_empty_by to_head (request_line method target) = false
-is_empty_by to_head (status_line status) = is_bodyless to_head status
+abbrev pub is_empty_by : Bool → Option ℕ → Bool
+is_empty_by to_head None = false
+is_empty_by to_head (Some status) = is_bodyless to_head status
 
 -- the body where the fields say none
-abbrev pub unsaid : StartLine → Framing1
-unsaid (request_line method target) = Empty
-unsaid (status_line status) = ToEnd
+abbrev pub unsaid : Option ℕ → Framing1
+unsaid None = Empty
+unsaid (Some status) = ToEnd
 
 abbrev pub said_by : Framing1 → Bool → Option ℕ → Framing1
 said_by otherwise true length = Chunked

@@ -3,3 +3,4 @@ pub mod Framed
 pub mod Hopping
 pub mod Targeted
 pub mod Own
+pub mod Judged

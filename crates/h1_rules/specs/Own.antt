@@ -1,7 +1,8 @@
 -- Cleaning, line by line.
-use Rattle.std.specs.Prelude.{ℕ, ◌≡◌, ◌≤◌, Bool, cond, ◌||◌, ◌&&◌, List, [], ◌∷◌, ◌++◌, length, codes, None, bytes_eq}
+use Rattle.std.specs.Prelude.{ℕ, ◌≡◌, ◌<◌, ◌≤◌, Bool, cond, ◌||◌, ◌&&◌, List, [], ◌∷◌, ◌++◌, length, codes, None, bytes_eq}
 use Rattle.bh_spec.specs.Messages.{Field}
 use Rattle.bh_model.specs.Lines.{FieldsView, lines_room}
+use Rattle.h1_head.specs.Room.{room_in, count_in}
 use Rattle.h1_spec.specs.Cleaning.{is_among, connection_names, kept_names, cookie}
 
 -- the names of the lines that a header section doesn't keep, and a trailer section
@@ -36,13 +37,21 @@ own_lines names crumbs joined [] = []
 own_lines names crumbs joined (field ∷ rest) = cond (is_dropped names joined field.name) (own_lines names crumbs joined rest)
     (own_line crumbs field ∷ own_lines names crumbs (joined || is_cookie field.name) rest)
 
--- These lines are left to add, and there is room for them; with them the lines are all.
-pub record IsAdding (to : FieldsView) (left all : List Field) : Type 0 where
+-- the bytes that a value adds, behind others or before them
+abbrev pub crumb_bytes : Bool → List ℕ → List ℕ
+crumb_bytes behind [] = []
+crumb_bytes behind (byte ∷ rest) = cond behind (codes "; ") [] ++ (byte ∷ rest)
+
+-- the line has a name
+abbrev pub IsNamed : Field → Type 0
+IsNamed field = 0 < length field.name
+
+-- Since a start these lines were added but for those that are left, for which there is room; with them the lines are all. The room of
+-- all is as it was.
+pub record IsAdding (start to : FieldsView) (left all : List Field) : Type 0 where
   pub lines : to.lines ++ left ≡ all
   pub ended : to.making ≡ None
   pub spare : lines_room left ≤ to.spare
   pub free : length left ≤ to.free
-
--- no line is there, and there is room for these
-abbrev pub IsRoomFor : FieldsView → List Field → Type 0
-IsRoomFor to all = IsAdding to all all
+  pub room : room_in to ≡ room_in start
+  pub count : count_in to ≡ count_in start

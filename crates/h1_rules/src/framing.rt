@@ -1,11 +1,16 @@
 //! Which body a head says (RFC 9112, section 6.3).
-ghost use Rattle.std.specs.Prelude.{◌≡◌, ◌≤◌, ◌<◌, ◌↔◌, List, [], codes, All, IsTrue, length};
+ghost use Rattle.std.specs.Prelude.{◌≡◌, ◌≤◌, ◌<◌, ◌↔◌, List, [], codes, All, IsTrue, Some, IfSome, length};
 ghost use Rattle.std.specs.Char.{digit_value};
 ghost use Rattle.std.specs.Str.Parse.{digits_value};
 ghost use Rattle.bh_spec.specs.Bytes.{is_digit, lower};
+ghost use Rattle.bh_spec.specs.Messages.{Start};
+ghost use Rattle.bh_model.specs.Values.{status_in};
 ghost use Rattle.h1_spec.specs.Framing.{IsLength, lengths};
+ghost use Rattle.h1_spec.specs.Heads.{StartLine as StartOf};
+ghost use Rattle.h1_spec.specs.Http1Text.{is_length as is_length_field};
+ghost use Rattle.h1_spec.specs.Moments.{announced};
 ghost use Rattle.h1_head.specs.Parsed.{head_of, line_of};
-ghost use Rattle.h1_rules.specs.Framed.{IsFinal, IsFramingAnswer, IsCodingAnswer, IsLengthAnswer, is_empty_by, unsaid, said_by};
+ghost use Rattle.h1_rules.specs.Framed.{IsFinal, IsFramingAnswer, IsCodingAnswer, IsLengthAnswer, status_said, is_empty_by, unsaid, said_by};
 
 use crate::lines::{Only, only_value};
 use bh_model::{Fields, H1Why};
@@ -18,16 +23,62 @@ pub fn framing_of(head: &Head1, to_head: bool) -> Result<Framing1, H1Why>
     requires { IsFinal (head_of head.now).start }
     ensures { IsFramingAnswer to_head (head_of head.now) result }
 {
-    let Some(coded) = coding_of(&head.fields) else {
+    framing_by(status_of(&head.start), &head.fields, to_head)
+}
+
+/// The same of a start and fields that stand apart: the status of a response, or none of a request.
+pub fn framing_by(status: Option<u16>, fields: &Fields, to_head: bool) -> Result<Framing1, H1Why>
+    requires { IfSome status (λ status. 200 ≤ status) }
+    ensures { (start : StartOf) → status_said start ≡ status
+        → IsFramingAnswer to_head (record { start = start; fields = fields.now.lines }) result }
+{
+    let Some(coded) = coding_of(fields) else {
         return Err(H1Why::Coding);
     };
-    let Some(length) = length_of(&head.fields) else {
+    let Some(length) = length_of(fields) else {
         return Err(H1Why::Length);
     };
-    if is_empty(&head.start, to_head) {
+    if is_empty(status, to_head) {
         return Ok(Framing1::Empty);
     }
-    Ok(said(otherwise(&head.start), coded, length))
+    Ok(said(otherwise(status), coded, length))
+}
+
+/// The body that a message's head announces where it is written as HTTP/1.1: none, where a response has none whatever its fields say;
+/// a counted one, where they say a length; else chunks. The status of a response, or none of a request.
+pub fn announced_by(to_head: bool, status: Option<u16>, fields: &Fields) -> Framing1
+    requires { IsTrue (is_length_field (lengths fields.now.lines)) }
+    ensures { (start : Start) → status_in start ≡ status → result ≡ announced to_head start fields.now.lines }
+{
+    if is_empty(status, to_head) {
+        return Framing1::Empty;
+    }
+    match length_said(fields) {
+        Some(length) => Framing1::Counted(length),
+        None => Framing1::Chunked,
+    }
+}
+
+/// The content length that the fields say, if they say one. They say none of another form.
+fn length_said(fields: &Fields) -> Option<u64>
+    requires { IsTrue (is_length_field (lengths fields.now.lines)) }
+    ensures { IsLengthAnswer fields.now.lines (Some result) }
+{
+    match length_of(fields) {
+        Some(length) => length,
+        // It isn't so.
+        None => None,
+    }
+}
+
+/// The status of a response.
+fn status_of(start: &StartLine) -> Option<u16>
+    ensures { result ≡ status_said (line_of start.now) }
+{
+    match start {
+        StartLine::Request { .. } => None,
+        StartLine::Response { status } => Some(*status),
+    }
 }
 
 /// Whether the fields say `chunked`. `None`: they say another coding, or several, or a length beside it.
@@ -78,6 +129,13 @@ fn length_of(fields: &Fields) -> Option<Option<u64>>
     }
 }
 
+/// Whether the fields say no content length, or one.
+pub(crate) fn says_length(fields: &Fields) -> bool
+    ensures { result ≡ is_length_field (lengths fields.now.lines) }
+{
+    length_of(fields).is_some()
+}
+
 /// 1 to 18 decimal digits.
 fn is_length(value: &[u8]) -> bool
     ensures { IsTrue result ↔ IsLength value.now }
@@ -108,22 +166,22 @@ fn value_of(digit: u8) -> u64
 
 /// Whether there is no body, whatever the fields say: of a response that answers HEAD, or with a status of 204 or 304 (RFC 9110,
 /// sections 9.3.2, 15.3.5 and 15.4.5).
-fn is_empty(start: &StartLine, to_head: bool) -> bool
-    ensures { result ≡ is_empty_by to_head (line_of start.now) }
+fn is_empty(status: Option<u16>, to_head: bool) -> bool
+    ensures { result ≡ is_empty_by to_head status }
 {
-    match start {
-        StartLine::Request { .. } => false,
-        StartLine::Response { status } => to_head || *status == 204 || *status == 304,
+    match status {
+        Some(status) => to_head || status == 204 || status == 304,
+        None => false,
     }
 }
 
 /// The body where the fields say none.
-fn otherwise(start: &StartLine) -> Framing1
-    ensures { result ≡ unsaid (line_of start.now) }
+fn otherwise(status: Option<u16>) -> Framing1
+    ensures { result ≡ unsaid status }
 {
-    match start {
-        StartLine::Request { .. } => Framing1::Empty,
-        StartLine::Response { .. } => Framing1::ToEnd,
+    match status {
+        Some(_) => Framing1::ToEnd,
+        None => Framing1::Empty,
     }
 }
 

@@ -1,13 +1,14 @@
 //! The names that a header section says are of its connection alone (RFC 9110, section 7.6.1).
-ghost use Rattle.std.specs.Prelude.{◌≡◌, ◌↔◌, ◌++◌, ◌∷◌, reverse, All, IsTrue, IfOk, OnOk, IfSome, IfNone};
+ghost use Rattle.std.specs.Prelude.{◌≡◌, ◌≤◌, ◌+◌, ◌↔◌, ◌++◌, ◌∷◌, [], reverse, All, IsTrue, IfOk, IfSome, IfNone, length, vec_len, vec_capacity};
 ghost use Rattle.bh_spec.specs.Bytes.{lower, is_token, is_blank as is_blank_byte};
+ghost use Rattle.bh_model.specs.Lines.{lines_room};
 ghost use Rattle.h1_spec.specs.Cleaning.{is_among, behind_blanks as front_trimmed, trim as trimmed, is_word as is_word_of, hops};
 ghost use Rattle.h1_head.specs.Cuts.{Lacks};
-ghost use Rattle.h1_rules.specs.Hopping.{is_hop as is_hop_name, hops_in, hops_of_piece};
+ghost use Rattle.h1_rules.specs.Hopping.{is_hop as is_hop_name, hops_in, hops_of_piece, names_held};
 
-use crate::lines::value_from;
+use crate::lines::{room_of, value_from};
 use bh_base::NoMemory;
-use bh_model::{Bytes, Fields};
+use bh_model::Fields;
 use std::alloc::Global;
 use std::marker::Model;
 
@@ -15,50 +16,97 @@ use std::marker::Model;
 /// and `content-length` are never among them.
 #[derive(Drop)]
 pub struct Hops {
-    list: Vec<Bytes>,
+    /// The names, with a comma before each.
+    bytes: Vec<u8>,
+    /// The bytes of field lines whose names there is room for.
+    room: usize,
 }
 
 impl Model for Hops {
-    ghost use Rattle.std.specs.Prelude.{List, ℕ};
+    ghost use Rattle.std.specs.Prelude.{◌≤◌, vec_capacity};
+    ghost use Rattle.h1_rules.specs.Hopping.{HopsView, names_held};
 
-    ghost Value = { List (List ℕ) };
+    ghost Value = { HopsView };
 
-    ghost view = { λ h. h.list.items };
+    ghost view = { λ h. record { names = names_held h.bytes.items; room = h.room } };
+
+    ghost invariant = { λ h. h.room ≤ vec_capacity h.bytes };
 }
 
 impl Hops {
+    /// No name, with room for those of a section of so many bytes. All memory is taken here.
+    pub fn with_room(alloc: Global, section: usize) -> Result<Hops, NoMemory>
+        ensures { IfOk result (λ named. named ≡ record { names = []; room = section }) }
+    {
+        Ok(Hops {
+            bytes: Vec::with_capacity(alloc, section)?,
+            room: section,
+        })
+    }
+
+    /// Drops all names.
+    pub fn clear(&mut self)
+        ensures { self.new ≡ record { names = []; room = self.old.room } }
+    {
+        self.bytes.clear();
+    }
+
+    /// The names that the `connection` lines of a header section name, and no others: what stands between commas, without blanks
+    /// at either end, where it is a token.
+    pub fn read(&mut self, fields: &Fields)
+        requires { lines_room fields.now.lines ≤ self.old.room }
+        ensures names { self.new.names ≡ hops fields.now.lines }
+        ensures room { self.new.room ≡ self.old.room }
+    {
+        self.bytes.clear();
+        add_lines(fields, &mut self.bytes);
+    }
+
     /// Whether the name, in lower case, is one of them.
     pub fn names(&self, name: &[u8]) -> bool
-        ensures { result ≡ is_among self.now name.now }
+        ensures { result ≡ is_among self.now.names name.now }
     {
-        self.list.iter().any(|own| name == own.as_slice())
+        let mut pieces = self.bytes.split(|&byte| byte == b',');
+        pieces.skip(1).any(|own| own == name)
     }
 }
 
-/// The names that the `connection` lines of a header section name: what stands between commas, without blanks at either end,
-/// where it is a token.
+/// The names that the `connection` lines of a header section name.
 pub fn hops_of(alloc: Global, fields: &Fields) -> Result<Hops, NoMemory>
-    ensures { IfOk result (λ named. named ≡ hops fields.now.lines) }
+    ensures { IfOk result (λ named. named.names ≡ hops fields.now.lines) }
 {
-    let mut list = Vec::new(alloc);
+    let mut hops = Hops::with_room(alloc, room_of(fields)?)?;
+    hops.read(fields);
+    Ok(hops)
+}
+
+/// Adds the names that the `connection` lines name, where none stands yet.
+fn add_lines(fields: &Fields, names: &mut Vec<u8>)
+    requires empty { names.old.items ≡ [] }
+    requires room { lines_room fields.now.lines ≤ vec_capacity names.old }
+    ensures names { names_held names.new.items ≡ hops fields.now.lines }
+    ensures capacity { vec_capacity names.old ≤ vec_capacity names.new }
+{
     let mut from = 0;
     while let Some((value, next)) = value_from(fields, b"connection", from) {
-        add_names(alloc, value, &mut list)?;
+        add_names(value, names);
         from = next;
     }
-    Ok(Hops { list })
 }
 
 /// Adds the names in a value of `connection`.
-fn add_names(alloc: Global, value: &[u8], list: &mut Vec<Bytes>) -> Result<(), NoMemory>
-    ensures { OnOk result (list.new.items ≡ list.old.items ++ hops_in value.now) }
+fn add_names(value: &[u8], names: &mut Vec<u8>)
+    requires { vec_len names.old + length value.now + 1 ≤ vec_capacity names.old }
+    ensures names { names_held names.new.items ≡ names_held names.old.items ++ hops_in value.now }
+    ensures len { vec_len names.new ≤ vec_len names.old + length value.now + 1 }
+    ensures capacity { vec_capacity names.old ≤ vec_capacity names.new }
 {
     let mut rest = value;
     while let Some((piece, more)) = first_piece(rest) {
-        add_name(alloc, piece, list)?;
+        add_name(piece, names);
         rest = more;
     }
-    add_name(alloc, rest, list)
+    add_name(rest, names);
 }
 
 /// What stands before the first comma, and behind it.
@@ -75,30 +123,43 @@ fn first_piece(value: &[u8]) -> Option<(&[u8], &[u8])>
 }
 
 /// Adds the name that a piece is between blanks, if it is one.
-fn add_name(alloc: Global, piece: &[u8], list: &mut Vec<Bytes>) -> Result<(), NoMemory>
-    ensures { OnOk result (list.new.items ≡ list.old.items ++ hops_of_piece piece.now) }
+fn add_name(piece: &[u8], names: &mut Vec<u8>)
+    requires { vec_len names.old + length piece.now + 1 ≤ vec_capacity names.old }
+    ensures names { names_held names.new.items ≡ names_held names.old.items ++ hops_of_piece piece.now }
+    ensures len { vec_len names.new ≤ vec_len names.old + length piece.now + 1 }
+    ensures capacity { vec_capacity names.old ≤ vec_capacity names.new }
 {
     let word = trim(piece);
-    if !is_word(word) {
-        return Ok(());
+    if is_word(word) && is_hop(word) {
+        push_name(word, names);
     }
-    let name = in_lower_case(alloc, word)?;
-    if is_hop(name.as_slice()) {
-        list.push(name)?;
+}
+
+/// Adds a comma, and the bytes in lower case. There is room for them.
+fn push_name(word: &[u8], names: &mut Vec<u8>)
+    requires { vec_len names.old + length word.now + 1 ≤ vec_capacity names.old }
+    ensures items { names.new.items ≡ names.old.items ++ (44 ∷ lower word.now) }
+    ensures len { vec_len names.new ≡ vec_len names.old + length word.now + 1 }
+    ensures capacity { vec_capacity names.old ≤ vec_capacity names.new }
+{
+    names.push_reserved(b',');
+    for &byte in word {
+        names.push_reserved(bh_base::lower(byte));
     }
-    Ok(())
 }
 
 /// The bytes without the blanks at either end.
 fn trim(bytes: &[u8]) -> &[u8]
-    ensures { result.now ≡ trimmed bytes.now }
+    ensures trimmed { result.now ≡ trimmed bytes.now }
+    ensures short { length result.now ≤ length bytes.now }
 {
     before_blanks(behind_blanks(bytes))
 }
 
 /// The bytes without the blanks that they begin with.
 fn behind_blanks(bytes: &[u8]) -> &[u8]
-    ensures { result.now ≡ front_trimmed bytes.now }
+    ensures trimmed { result.now ≡ front_trimmed bytes.now }
+    ensures short { length result.now ≤ length bytes.now }
 {
     let mut rest = bytes;
     while let Some((&byte, behind)) = rest.split_first() {
@@ -112,7 +173,8 @@ fn behind_blanks(bytes: &[u8]) -> &[u8]
 
 /// The bytes without the blanks that they end with.
 fn before_blanks(bytes: &[u8]) -> &[u8]
-    ensures { result.now ≡ reverse (front_trimmed (reverse bytes.now)) }
+    ensures trimmed { result.now ≡ reverse (front_trimmed (reverse bytes.now)) }
+    ensures short { length result.now ≤ length bytes.now }
 {
     let mut rest = bytes;
     while let Some((&byte, before)) = rest.split_last() {
@@ -145,20 +207,9 @@ fn are_token_bytes(bytes: &[u8]) -> bool
     bytes.iter().all(|&byte| bh_base::is_token(byte))
 }
 
-/// Whether a name may be a hop: `host` and `content-length` stay a message's own.
+/// Whether a name, in any case of letters, may be a hop: `host` and `content-length` stay a message's own.
 fn is_hop(name: &[u8]) -> bool
-    ensures { result ≡ is_hop_name name.now }
+    ensures { result ≡ is_hop_name (lower name.now) }
 {
-    !(name == b"host".as_slice() || name == b"content-length".as_slice())
-}
-
-/// A copy of the bytes in lower case.
-fn in_lower_case(alloc: Global, bytes: &[u8]) -> Result<Bytes, NoMemory>
-    ensures { IfOk result (λ copy. copy ≡ lower bytes.now) }
-{
-    let mut items = Vec::with_capacity(alloc, bytes.len())?;
-    for &byte in bytes {
-        items.push(bh_base::lower(byte))?;
-    }
-    Ok(Bytes::from_vec(items))
+    !(name.eq_ignore_ascii_case(b"host") || name.eq_ignore_ascii_case(b"content-length"))
 }

@@ -4,14 +4,16 @@
 mod cleaning;
 mod framing;
 mod hops;
+mod judging;
 mod lines;
 mod targets;
 #[cfg(test)]
 mod tests;
 
-pub use cleaning::{clean, clean_trailers};
-pub use framing::framing_of;
+pub use cleaning::{clean, clean_into, clean_trailers, clean_trailers_into};
+pub use framing::{announced_by, framing_by, framing_of};
 pub use h1_head::Framing1;
 pub use h1_spec::Scheme1;
 pub use hops::{Hops, hops_of};
+pub use judging::{form_of_interim, form_of_request, form_of_response, form_of_trailers};
 pub use targets::{TargetWhy, target_of};

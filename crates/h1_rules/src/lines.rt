@@ -1,9 +1,26 @@
 //! The lines of one name.
-ghost use Rattle.std.specs.Prelude.{◌≡◌, ◌<◌, ◌≤◌, ◌∷◌, [], length, IfSome, IfNone};
+ghost use Rattle.std.specs.Prelude.{◌≡◌, ◌<◌, ◌≤◌, ◌∷◌, [], length, IfOk, IfSome, IfNone};
+ghost use Rattle.bh_model.specs.Lines.{lines_room};
 ghost use Rattle.h1_spec.specs.Cleaning.{values_of};
 ghost use Rattle.h1_rules.specs.Values.{IsOnly, values_from};
 
+use bh_base::NoMemory;
 use bh_model::Fields;
+
+/// The bytes of room that the lines use; or there is not so much memory.
+pub fn room_of(fields: &Fields) -> Result<usize, NoMemory>
+    ensures { IfOk result (λ room. room ≡ lines_room fields.now.lines) }
+{
+    let mut room = 0_usize;
+    for i in 0..fields.len() {
+        let (name, value) = fields.line(i);
+        let Some(more) = room.checked_add(name.len() + value.len() + 2) else {
+            return Err(NoMemory);
+        };
+        room = more;
+    }
+    Ok(room)
+}
 
 /// The value of the first line of a name from a place on, and the place behind it.
 pub fn value_from<'a>(fields: &'a Fields, name: &[u8], from: usize) -> Option<(&'a [u8], usize)>

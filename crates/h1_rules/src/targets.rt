@@ -146,7 +146,7 @@ fn is_path(bytes: &[u8]) -> bool
 }
 
 /// Whether each byte is one of an authority.
-fn is_authority(bytes: &[u8]) -> bool
+pub(crate) fn is_authority(bytes: &[u8]) -> bool
     ensures { IsTrue result ↔ All (λ byte. IsTrue (is_authority_byte byte)) bytes.now }
 {
     bytes.iter().all(|&byte| bh_base::is_authority(byte))

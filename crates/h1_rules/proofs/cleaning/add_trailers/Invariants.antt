@@ -5,4 +5,4 @@ use Rattle.h1_rules.proofs.cleaning.add_trailers.Given as goal
 
 abbrev pub invariant-loop-i : goal.invariant-loop-i
 invariant-loop-i l =
-    IsAdding l.cleaned (without (dropped_trailers l.hops) (drop l.i l.fields.lines)) (without (dropped_trailers l.hops) l.fields.lines)
+    IsAdding l.initial.cleaned l.cleaned (without (dropped_trailers l.hops.names) (drop l.i l.fields.lines)) (without (dropped_trailers l.hops.names) l.fields.lines)
