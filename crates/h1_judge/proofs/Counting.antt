@@ -64,7 +64,6 @@ within to_head f field n named bytes e = subst (λ (g : Framing1). IsCounting g 
     → AreCounted to_head (at g n named) bytes (at g (n + length bytes) named)) (sym e) (λ c few. record {
       free = free_within to_head field n named bytes (omega (arith, c.0, few));
       course = sym (counted_within to_head field n named bytes);
-      counting = (omega (arith, c.0, few), c.1);
     })
 
 pub too_far : (to_head : Bool) (f : Framing1) (field n : ℕ) (named : List (List ℕ)) (bytes : List ℕ) → f ≡ Counted field → IsCounting f n
@@ -124,6 +123,6 @@ to_end_same to_head n named (x ∷ bytes) = to_end_same to_head n named bytes
 pub any_may : (to_head : Bool) (f : Framing1) (n : ℕ) (named : List (List ℕ)) (bytes : List ℕ) → (f ≡ Chunked) ⊎ (f ≡ ToEnd)
     → AreCounted to_head (at f n named) bytes (at f n named)
 any_may to_head f n named bytes (inl e) = subst (λ (g : Framing1). AreCounted to_head (at g n named) bytes (at g n named)) (sym e)
-    (record { free = chunked_free to_head n named bytes; course = sym (chunked_same to_head n named bytes); counting = tt })
+    (record { free = chunked_free to_head n named bytes; course = sym (chunked_same to_head n named bytes) })
 any_may to_head f n named bytes (inr e) = subst (λ (g : Framing1). AreCounted to_head (at g n named) bytes (at g n named)) (sym e)
-    (record { free = to_end_free to_head n named bytes; course = sym (to_end_same to_head n named bytes); counting = tt })
+    (record { free = to_end_free to_head n named bytes; course = sym (to_end_same to_head n named bytes) })

@@ -9,7 +9,9 @@ use Rattle.bh_spec.specs.Integers.{int, vi, least_width}
 use Rattle.bh_spec.specs.Messages.{Field}
 use Rattle.bh_spec.specs.Canonical.{string, line, lines, FieldsFit}
 use Rattle.bh_model.specs.Lines.{FieldsView, lines_room}
-use Rattle.h1_judge.specs.Stubs.{room_in, count_in, HopsView, IsNamed}
+use Rattle.h1_head.specs.Room.{room_in, count_in}
+use Rattle.h1_rules.specs.Hopping.{HopsView}
+use Rattle.h1_rules.specs.Own.{IsNamed}
 use Rattle.h1_judge.specs.Judges.{HasRoom, HasRoomOf, IsSound}
 use Rattle.h1_judge.specs.declared.judging.Judge.{Judge}
 

@@ -16,12 +16,20 @@ abbrev pub start_of : Head → Start
 start_of (of_request control) = request control
 start_of (of_response status) = response [] status
 
--- An item without the lines of a connection. A trailer section is cleaned by the names of the header section.
+-- The lines of an item's section that are the message's own. A trailer section is cleaned by the names of the header section.
+abbrev pub own_fields : List (List ℕ) → Item → List Field
+own_fields named (interim_response status fields) = clean (hops fields) false fields
+own_fields named (head of fields) = clean (hops fields) (says_host (start_of of)) fields
+own_fields named (content_byte x) = []
+own_fields named (trailer_section fields) = clean_trailers named fields
+own_fields named (ending omitted padding) = []
+
+-- the item with these alone
 abbrev pub cleaned_item : List (List ℕ) → Item → Item
-cleaned_item named (interim_response status fields) = interim_response status (clean (hops fields) false fields)
-cleaned_item named (head of fields) = head of (clean (hops fields) (says_host (start_of of)) fields)
+cleaned_item named (interim_response status fields) = interim_response status (own_fields named (interim_response status fields))
+cleaned_item named (head of fields) = head of (own_fields named (head of fields))
 cleaned_item named (content_byte x) = content_byte x
-cleaned_item named (trailer_section fields) = trailer_section (clean_trailers named fields)
+cleaned_item named (trailer_section fields) = trailer_section (own_fields named (trailer_section fields))
 cleaned_item named (ending omitted padding) = ending omitted padding
 
 -- the names that the last header section, or section of an interim response, keeps to its connection

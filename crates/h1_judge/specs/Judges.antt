@@ -1,16 +1,21 @@
 -- What is kept for the judgement, and what the calls on it answer.
 use Rattle.std.specs.Prelude.{ℕ, ◌≡◌, ◌<◌, ◌≤◌, ◌+◌, ◌-◌, ◌/◌, ◌^◌, Bool, Option, Some, None, List, [], ◌∷◌, ◌++◌, length, map}
 use Rattle.bh_spec.specs.declared.NoForm.{NoForm}
+use Rattle.bh_spec.specs.declared.Omitted.{Omitted}
+use Rattle.bh_spec.specs.declared.Omitted.TheVariants.{Nothing}
 use Rattle.bh_spec.specs.Bounds.{Bounds}
 use Rattle.bh_spec.specs.Messages.{Field}
 use Rattle.bh_spec.specs.Items.{Item, content_byte}
 use Rattle.bh_model.specs.Lines.{FieldsView, lines_room}
-use Rattle.bh_reading.specs.Readings.{Counted as ReadingView}
+use Rattle.bh_stream.specs.declared.traits.Event.{Event}
+use Rattle.bh_reading.specs.Readings.{Counted as ReadingView, shows}
 use Rattle.h1_spec.specs.declared.Framing1.{Framing1}
 use Rattle.h1_spec.specs.declared.Framing1.TheVariants.{Empty, Counted, Chunked, ToEnd}
-use Rattle.h1_judge.specs.Stubs.{room_in, count_in, HopsView}
+use Rattle.h1_spec.specs.Moments.{of_end, first_of}
+use Rattle.h1_head.specs.Room.{room_in, count_in}
+use Rattle.h1_rules.specs.Hopping.{HopsView}
 use Rattle.h1_judge.specs.declared.judging.Judge.{Judge}
-use Rattle.h1_judge.specs.Courses.{Course, behind_item, behind, item_form, AreFree}
+use Rattle.h1_judge.specs.Courses.{own_fields, Course, behind_item, behind, item_form, AreFree}
 use Rattle.h1_judge.specs.Views.{JudgedView, IsFitting}
 
 abbrev pub course_of : Judge → Course
@@ -76,13 +81,13 @@ IsShort ToEnd n long = Unit {0}
 
 -- The answer for a section whose item this is: the item is judged, and its section cleaned. What is known stands behind it, if no rule
 -- holds.
-pub record Judges (v : Judge) (item : Item) (own : List Field) (result : Option NoForm) (w : Judge) : Type 0 where
+pub record Judges (v : Judge) (item : Item) (result : Option NoForm) (w : Judge) : Type 0 where
   pub to_head : w.to_head ≡ v.to_head
   pub answer : result ≡ item_form (course_of v) item
   pub course : result ≡ None → course_of w ≡ behind_item v.to_head (course_of v) item
-  pub cleaned : w.cleaned.lines ≡ own
+  pub cleaned : w.cleaned.lines ≡ own_fields v.hops.names item
   pub room : KeepsRoom v w
-  pub counting : result ≡ None → IsCounting w.framing w.counted
+  pub counting : IsCounting w.framing w.counted
 
 -- The bytes are content, and a rule holds for the last of them, and none before it.
 pub record IsLastJudged (to_head : Bool) (c : Course) (bytes : List ℕ) (form : NoForm) : Type 0 where
@@ -96,7 +101,6 @@ pub record IsLastJudged (to_head : Bool) (c : Course) (bytes : List ℕ) (form :
 pub record AreCounted (to_head : Bool) (c : Course) (bytes : List ℕ) (d : Course) : Type 0 where
   pub free : AreFree to_head c (map content_byte bytes)
   pub course : d ≡ behind to_head c (map content_byte bytes)
-  pub counting : IsCounting d.framing d.counted
 
 abbrev pub CountsContent : Bool → Course → List ℕ → Option NoForm → Course → Type 0
 CountsContent to_head c bytes None d = AreCounted to_head c bytes d
@@ -113,3 +117,15 @@ pub record IsFront (piece front : List ℕ) : Type 0 where
   pub after : List ℕ
   pub split : piece ≡ front ++ after
   pub some : 0 < length piece → 0 < length front
+
+-- The answer for the end of an input that leaves so much out: the first rule that holds, if it leaves the trailer section out.
+abbrev pub EndsWith : Course → Omitted → Option NoForm → Type 0
+EndsWith c omitted None = (omitted ≡ Nothing → ⊥) → first_of (of_end c.framing c.counted) ≡ None
+EndsWith c omitted (Some form) = (omitted ≡ Nothing → ⊥) × (first_of (of_end c.framing c.counted) ≡ Some form)
+
+-- an event whose section is shown, and for which there is room
+abbrev pub IsShown : ReadingView → Judge → Event → Type 0
+IsShown c j event = (item : Item) × shows c event item × HasRoomFor j item
+
+abbrev pub JudgesShown : ReadingView → Judge → Event → Option NoForm → Judge → Type 0
+JudgesShown c v event result w = (item : Item) → shows c event item → Judges v item result w

@@ -1,4 +1,3 @@
-pub mod Stubs
 pub mod Courses
 pub mod Views
 pub mod Judges

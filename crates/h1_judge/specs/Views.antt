@@ -15,12 +15,11 @@ use Rattle.bh_stream.specs.declared.traits.Event.TheVariants as events
 use Rattle.bh_reading.specs.Readings as binary
 use Rattle.bh_reading.specs.Readings.{Counted}
 use Rattle.bh_reading.specs.Coming.{InterimComes, StartComes, TrailersCome}
-use Rattle.h1_spec.specs.Cleaning.{hops, clean, clean_trailers, says_host}
 use Rattle.h1_spec.specs.Http1Text.{has_bad_value}
 use Rattle.h1_spec.specs.Moments.{announced, of_end, first_of}
 use Rattle.h1_judge.specs.declared.judged.IntoWhy.{IntoWhy}
 use Rattle.h1_judge.specs.declared.judged.IntoWhy.TheVariants as why
-use Rattle.h1_judge.specs.Courses.{start_of, cleaned_items, Course, start_course, behind, item_form, AreFree}
+use Rattle.h1_judge.specs.Courses.{start_of, own_fields, cleaned_items, Course, start_course, behind, item_form, AreFree}
 
 -- the decoder of the binary message, whether a response answers HEAD, what is known for the judgement, and the cleaned lines of the
 -- section that was handed out last
@@ -75,24 +74,24 @@ pub record IsReady (v : JudgedView) : Type 0 where
 -- ---- the items of events
 
 -- The section that was read last is that of the item, which is valid and just ended; and it is cleaned.
-pub record IsSection (v : JudgedView) (raw own : List Field) (item : Item) : Type 0 where
+pub record IsSection (v : JudgedView) (raw : List Field) (item : Item) : Type 0 where
   pub lines : v.reading.held.lines ≡ Some raw
   pub fitting : IsFitting (limits v) item
   pub right : IsRight (item ∷ []) v.reading.held.decoder.at
-  pub cleaned : v.cleaned ≡ own
+  pub cleaned : v.cleaned ≡ own_fields v.course.named item
 
 pub record IsInterim (v : JudgedView) (status : ℕ) (raw : List Field) : Type 0 where
-  pub section : IsSection v raw (clean (hops raw) false raw) (interim_response status raw)
+  pub section : IsSection v raw (interim_response status raw)
   pub free : item_form v.course (interim_response status raw) ≡ None
 
 pub record IsHead (v : JudgedView) (of : Head) (raw : List Field) : Type 0 where
-  pub section : IsSection v raw (clean (hops raw) (says_host (start_of of)) raw) (head of raw)
+  pub section : IsSection v raw (head of raw)
   pub free : item_form v.course (head of raw) ≡ None
   pub head_is : v.reading.held.head ≡ Some of
   pub framing : v.course.framing ≡ announced v.to_head (start_of of) raw
 
 pub record IsTrailers (v : JudgedView) (raw : List Field) : Type 0 where
-  pub section : IsSection v raw (clean_trailers v.course.named raw) (trailer_section raw)
+  pub section : IsSection v raw (trailer_section raw)
   pub free : has_bad_value v.cleaned ≡ false
 
 -- the cleaned item of an event, as the decoder shows it

@@ -1,21 +1,20 @@
 //! What is kept for the judgement.
-ghost use Rattle.std.specs.Prelude.{◌≡◌, ◌<◌, ◌≤◌, false, All, IsTrue, None, Some, IfOk, List, length, min, take};
+ghost use Rattle.std.specs.Prelude.{◌≡◌, ◌<◌, ◌≤◌, false, not, All, IsTrue, None, Some, IfOk, List, length, min, take};
 ghost use Rattle.bh_spec.specs.Bounds.{Bounds};
-ghost use Rattle.bh_spec.specs.Messages.{Start, request};
-ghost use Rattle.bh_model.specs.Values.{control_lent};
+ghost use Rattle.bh_spec.specs.Messages.{Start};
+ghost use Rattle.bh_model.specs.Values.{control_lent, status_in};
 ghost use Rattle.bh_spec.specs.Items.{interim_response, head, trailer_section, of_request, of_response};
-ghost use Rattle.h1_spec.specs.Cleaning.{hops as hops_named, clean, clean_trailers, says_host};
+ghost use Rattle.h1_spec.specs.Cleaning.{hops as hops_named, clean, is_empty};
 ghost use Rattle.h1_spec.specs.Framing.{lengths};
 ghost use Rattle.h1_spec.specs.Http1Text.{is_length};
 ghost use Rattle.h1_spec.specs.Moments.{announced, of_end, first_of as first_form};
-ghost use Rattle.h1_judge.specs.Stubs.{IsNamed, status_in};
+ghost use Rattle.h1_rules.specs.Own.{IsNamed};
 ghost use Rattle.h1_judge.specs.Courses.{start_course};
-ghost use Rattle.h1_judge.specs.Judges.{course_of, IsCounting, IsSound, HasRoomFor, HasRoomOf, IsCleaned, IsShort, Judges, CountsContent, Leaves, IsFront};
+ghost use Rattle.h1_judge.specs.Judges.{course_of, IsCounting, IsSound, HasRoomFor, HasRoomOf, IsCleaned, IsShort, Judges, CountsContent, Leaves, IsFront, EndsWith};
 
-use crate::stubs::{Hops, announced_by, clean_into, clean_trailers_into, form_of_interim, form_of_request, form_of_response, form_of_trailers};
+use h1_rules::{Framing1, Hops, announced_by, clean_into, clean_trailers_into, form_of_interim, form_of_request, form_of_response, form_of_trailers};
 use bh_base::NoMemory;
-use bh_model::{ControlView, Fields, Limits, NoForm};
-use h1_rules::Framing1;
+use bh_model::{ControlView, Fields, Limits, NoForm, Omitted};
 use std::alloc::Global;
 
 /// What the judgement of a message needs to know of it.
@@ -67,8 +66,7 @@ impl Judge {
     /// Judges an interim response.
     pub fn interim(&mut self, status: u16, fields: &Fields) -> Option<NoForm>
         requires { HasRoomFor self.old (interim_response status fields.now.lines) }
-        ensures { Judges self.old (interim_response status fields.now.lines)
-            (clean (hops_named fields.now.lines) false fields.now.lines) result self.new }
+        ensures { Judges self.old (interim_response status fields.now.lines) result self.new }
     {
         self.clean_header(fields, false);
         form_of_interim(status, fields, &self.cleaned)
@@ -77,10 +75,9 @@ impl Judge {
     /// Judges the head of a request, and keeps what it says of the body.
     pub fn request(&mut self, control: ControlView<'_>, fields: &Fields) -> Option<NoForm>
         requires { HasRoomFor self.old (head (of_request (control_lent control)) fields.now.lines) }
-        ensures { Judges self.old (head (of_request (control_lent control.entry)) fields.now.lines)
-            (clean (hops_named fields.now.lines) (says_host (request (control_lent control.entry))) fields.now.lines) result self.new }
+        ensures { Judges self.old (head (of_request (control_lent control.entry)) fields.now.lines) result self.new }
     {
-        self.clean_header(fields, !control.authority.is_empty());
+        self.clean_header(fields, says_authority(control.authority));
         if let Some(form) = form_of_request(control, fields, &self.cleaned) {
             return Some(form);
         }
@@ -91,8 +88,7 @@ impl Judge {
     /// Judges the head of a response, and keeps what it says of the body.
     pub fn response(&mut self, status: u16, fields: &Fields) -> Option<NoForm>
         requires { HasRoomFor self.old (head (of_response status) fields.now.lines) }
-        ensures { Judges self.old (head (of_response status) fields.now.lines)
-            (clean (hops_named fields.now.lines) false fields.now.lines) result self.new }
+        ensures { Judges self.old (head (of_response status) fields.now.lines) result self.new }
     {
         self.clean_header(fields, false);
         if let Some(form) = form_of_response(fields, &self.cleaned) {
@@ -129,7 +125,7 @@ impl Judge {
     /// Judges a trailer section. Nothing is judged behind it.
     pub fn trailers(&mut self, fields: &Fields) -> Option<NoForm>
         requires { HasRoomFor self.old (trailer_section fields.now.lines) }
-        ensures { Judges self.old (trailer_section fields.now.lines) (clean_trailers self.old.hops.names fields.now.lines) result self.new }
+        ensures { Judges self.old (trailer_section fields.now.lines) result self.new }
     {
         clean_trailers_into(fields, &self.hops, &mut self.cleaned);
         let form = form_of_trailers(self.framing, self.counted, &self.cleaned);
@@ -144,6 +140,7 @@ impl Judge {
         requires some { 0 < length bytes.now }
         ensures counts { CountsContent self.old.to_head (course_of self.old) bytes.now result (course_of self.new) }
         ensures leaves { Leaves self.old self.new }
+        ensures counting { IsCounting self.new.framing self.new.counted }
     {
         match self.framing {
             Framing1::Empty => Some(NoForm::Bodyless),
@@ -175,9 +172,18 @@ impl Judge {
         }
     }
 
-    /// Judges the end of an input that leaves the trailer section out.
-    pub fn end(&self) -> Option<NoForm>
-        requires counting { IsCounting self.now.framing self.now.counted }
+    /// Judges the end of an input that leaves so much out.
+    pub fn end(&self, omitted: Omitted) -> Option<NoForm>
+        ensures { EndsWith (course_of self.now) omitted result }
+    {
+        match omitted {
+            Omitted::Nothing => None,
+            Omitted::Trailers | Omitted::Both => self.short(),
+        }
+    }
+
+    /// The form that is missing where a counted body is too short.
+    fn short(&self) -> Option<NoForm>
         ensures { result ≡ first_form (of_end self.now.framing self.now.counted) }
     {
         match self.framing {
@@ -188,6 +194,13 @@ impl Judge {
             _ => None,
         }
     }
+}
+
+/// Whether control data says the host.
+fn says_authority(authority: &[u8]) -> bool
+    ensures { result ≡ not (is_empty authority.now) }
+{
+    !authority.is_empty()
 }
 
 /// The first bytes, at most so many.

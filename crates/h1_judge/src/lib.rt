@@ -3,6 +3,7 @@
 
 mod judged;
 mod judging;
-mod stubs;
+mod steps;
 
-pub use judged::IntoWhy;
+pub use h1_rules::Framing1;
+pub use judged::{IntoWhy, Judged};

@@ -1,4 +1,0 @@
-use Rattle.h1_judge.proofs.stubs.form_of_request.Goals as goal
-
-pub returns : goal.returns
-returns c = ?
