@@ -84,10 +84,10 @@ abbrev pub EventOn : JudgedView → List ℕ → ℕ → Event → JudgedView �
 EventOn v piece n event w = (item : Item) × Took rest Moved v piece n (item ∷ []) w × shows w event item × (content_items (item ∷ []) ≡ 0)
 
 module _ (c d : Counted) (j k : Judge) (ready : IsReady (view_of c j)) where
-  v : JudgedView
+  abbrev pub v : JudgedView
   v = view_of c j
 
-  w : JudgedView
+  abbrev pub w : JudgedView
   w = view_of d k
 
   -- an item that comes is one of a valid message within the limits

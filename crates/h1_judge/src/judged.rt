@@ -1,6 +1,6 @@
 //! The decoder that judges.
 ghost use Rattle.std.specs.Prelude.{◌≡◌, None, IfOk};
-ghost use Rattle.h1_judge.specs.Views.{IsAtStart};
+ghost use Rattle.h1_judge.specs.Views.{IsAtStart, IsReady};
 
 use crate::judging::Judge;
 use crate::steps::take;
@@ -45,7 +45,8 @@ impl Model for Judged {
 impl Judged {
     /// A decoder at the start of a message, with all the memory that it needs. `to_head`: the message answers HEAD, if it is a response.
     pub fn new(alloc: Global, limits: &Limits, to_head: bool) -> Result<Judged, NoMemory>
-        ensures { IfOk result (λ judged. IsAtStart limits.now to_head judged) }
+        ensures start { IfOk result (λ judged. IsAtStart limits.now to_head judged) }
+        ensures ready { IfOk result IsReady }
     {
         let reading = Reading::new(alloc, limits)?;
         let judge = Judge::new(alloc, limits, to_head)?;

@@ -1,7 +1,9 @@
 //! What is kept for the judgement.
 ghost use Rattle.std.specs.Prelude.{◌≡◌, ◌<◌, ◌≤◌, false, not, All, IsTrue, None, Some, IfOk, List, length, min, take};
+ghost use Rattle.bh_spec.specs.declared.NoForm.TheVariants as no;
 ghost use Rattle.bh_spec.specs.Bounds.{Bounds};
 ghost use Rattle.bh_spec.specs.Messages.{Start};
+ghost use Rattle.bh_model.specs.Ranges.{AreLimits};
 ghost use Rattle.bh_model.specs.Values.{control_lent, status_in};
 ghost use Rattle.bh_spec.specs.Items.{interim_response, head, trailer_section, of_request, of_response};
 ghost use Rattle.h1_spec.specs.Cleaning.{hops as hops_named, clean, is_empty};
@@ -38,6 +40,7 @@ impl Judge {
         ensures start { IfOk result (λ judge. course_of judge ≡ start_course) }
         ensures to_head { IfOk result (λ judge. judge.to_head ≡ to_head) }
         ensures sound { IfOk result (λ judge. IsSound limits.now judge) }
+        ensures limits { IfOk result (λ judge. AreLimits limits.now) }
     {
         let section = limits.section() as usize;
         let hops = Hops::with_room(alloc, section)?;
@@ -147,10 +150,7 @@ impl Judge {
             Framing1::Counted(field) => {
                 let more = bytes.len() as u64;
                 if field - self.counted < more {
-                    return Some(NoForm::LengthDiffers {
-                        field,
-                        content: field + 1,
-                    });
+                    return Some(differs(field, field + 1));
                 }
                 self.counted += more;
                 None
@@ -187,13 +187,17 @@ impl Judge {
         ensures { result ≡ first_form (of_end self.now.framing self.now.counted) }
     {
         match self.framing {
-            Framing1::Counted(field) if self.counted < field => Some(NoForm::LengthDiffers {
-                field,
-                content: self.counted,
-            }),
+            Framing1::Counted(field) if self.counted < field => Some(differs(field, self.counted)),
             _ => None,
         }
     }
+}
+
+/// The content has another length than its field says.
+fn differs(field: u64, content: u64) -> NoForm
+    ensures { result ≡ no.LengthDiffers field content }
+{
+    NoForm::LengthDiffers { field, content }
 }
 
 /// Whether control data says the host.

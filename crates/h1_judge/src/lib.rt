@@ -4,6 +4,8 @@
 mod judged;
 mod judging;
 mod steps;
+#[cfg(test)]
+mod tests;
 
 pub use h1_rules::Framing1;
 pub use judged::{IntoWhy, Judged};
