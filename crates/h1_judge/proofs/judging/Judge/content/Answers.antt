@@ -1,10 +1,13 @@
+use Rattle.std.proofs.Common.{sym, subst}
+use Rattle.h1_judge.specs.Judges.{course_of, IsLastJudged}
 use Rattle.h1_judge.proofs.Counting.{within, too_far, none_may, any_may}
 use Rattle.h1_judge.proofs.judging.Judge.content.Goals as goal
 
 pub returns-then-field-self-clause-counts : goal.returns-then-field-self-clause-counts
 returns-then-field-self-clause-counts c =
     let j = c.args.self.now in
-    too_far j.to_head j.framing c.in-Counted.field j.counted j.hops.names c.args.bytes.now c.in-Counted.is c.requires.counting c.requires.short c.requires.some c.if-field-self.true
+    subst (IsLastJudged j.to_head (course_of j) c.args.bytes.now) (sym c.differs.ensures)
+    (too_far j.to_head j.framing c.in-Counted.field j.counted j.hops.names c.args.bytes.now c.in-Counted.is c.requires.counting c.requires.short c.requires.some c.if-field-self.true)
 
 pub returns-in-Empty-clause-counts : goal.returns-in-Empty-clause-counts
 returns-in-Empty-clause-counts c =
