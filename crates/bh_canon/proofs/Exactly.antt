@@ -1,13 +1,10 @@
 -- `Done` is the end exactly where the input is a message.
-use Rattle.std.proofs.Common.{◌≡◌, ℕ, List, length, refl, subst}
-use Rattle.bh_spec.specs.declared.Omitted.{Omitted}
+use Rattle.std.proofs.Common.{length, subst}
 use Rattle.bh_spec.specs.declared.Refusal.{Refusal}
 use Rattle.bh_spec.specs.declared.Summary.{Summary}
 use Rattle.bh_spec.specs.Reports.{summary}
-use Rattle.bh_spec.specs.Messages.{Message}
-use Rattle.bh_spec.specs.Answers.{Answer, whole}
+use Rattle.bh_spec.specs.Answers.{whole}
 use Rattle.bh_stream.specs.declared.streaming.End.{End}
-use Rattle.bh_stream.specs.declared.streaming.End.TheVariants as end
 use Rattle.bh_canon.specs.Telling.{Told}
 use Rattle.bh_canon.specs.Laws.{DoneExactly}
 

@@ -1,5 +1,5 @@
 -- A check over a lent source is a check of the source.
-use Rattle.std.proofs.Common.{◌≡◌, ◌⊎◌, ℕ, true, List, [], ◌∷◌, ◌++◌, refl, sym, ◌∙◌, subst, inl, inr}
+use Rattle.std.proofs.Common.{◌≡◌, ◌⊎◌, ℕ, true, List, [], ◌∷◌, ◌++◌, refl, ◌∙◌, subst, inl, inr}
 use Rattle.bh_spec.specs.declared.Summary.{Summary}
 use Rattle.bh_spec.specs.declared.Refusal.{Refusal}
 use Rattle.bh_spec.specs.Bounds.{Bounds}

@@ -7,3 +7,4 @@ pub mod Calls
 pub mod Exactly
 pub mod Equal
 pub mod Back
+pub mod Holding

@@ -1,17 +1,16 @@
 -- What a port's log tells of a call, and how many bytes a refused call took.
-use Rattle.std.proofs.Common.{◌≡◌, ◌≤◌, ◌<◌, ◌+◌, ◌⊎◌, ℕ, zero, suc, Bool, true, false, ◌||◌, List, [], ◌∷◌, ◌++◌, length, Option, Some, None, IfSome, refl, sym, ◌∙◌, ap, subst, length-append, arith}
+use Rattle.std.proofs.Common.{◌≡◌, ◌≤◌, ◌<◌, ◌+◌, ℕ, zero, suc, Bool, ◌||◌, List, [], ◌∷◌, ◌++◌, length, Option, Some, None, refl, sym, ◌∙◌, ap, subst, length-append, arith}
 use Rattle.bh_spec.specs.declared.Refusal.{Refusal}
 use Rattle.bh_spec.specs.declared.Refusal.TheVariants.{Dead, Limit, Ended, TooLong}
 use Rattle.bh_spec.specs.declared.Summary.{Summary}
 use Rattle.bh_spec.specs.Bounds.{Bounds}
 use Rattle.bh_spec.specs.Messages.{Message}
 use Rattle.bh_spec.specs.Viable.{IsMessageText}
-use Rattle.bh_base.specs.Steps.{Step, Read, Write, BadRead, BadWrite, Entry, Took, Gave, entries, taken, given, met, is_empty, meets_end, OnlyReads, OnlyWrites, Asks, AreWithinRoom, Logs, Either, ReadFacts, WriteFacts, ReadLeaves, WriteLeaves}
+use Rattle.bh_base.specs.Steps.{Step, Read, Write, BadRead, BadWrite, Entry, Took, Gave, entries, taken, given, met, is_empty, meets_end, Asks, AreWithinRoom, Logs}
 use Rattle.bh_base.specs.StepLaws.{taken-append, writes_take_nothing}
-use Rattle.bh_base.proofs.Chains.{chain_facts}
 use Rattle.bh_push.specs.Pushes.{refused_at}
 use Rattle.bh_stream.specs.Logs.{IsClose, GivesFront, KeepsUp, ReadsTo}
-use Rattle.bh_stream.specs.Formats.{IsTextOf}
+use Rattle.bh_stream.specs.Messages.{IsTextOf}
 use Rattle.bh_stream.specs.Calls.{IsRefusal, StreamEnds, StreamCall}
 use Rattle.bh_stream.specs.Points.{one_read}
 use Rattle.bh_stream.specs.declared.streaming.End.{End}

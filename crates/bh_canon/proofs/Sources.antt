@@ -1,14 +1,13 @@
 -- What a source tells of a check, by what the check did.
-use Rattle.std.proofs.Common.{◌≡◌, ◌≤◌, ℕ, Bool, true, List, [], length, Option, Some, None, IfSome, refl, ap, ◌∙◌, arith}
+use Rattle.std.proofs.Common.{◌≡◌, ℕ, Bool, true, List, [], Option, Some, None, IfSome, refl, ap, arith}
 use Rattle.std.specs.Io.KnownBytes.{IsAtEnd}
 use Rattle.bh_spec.specs.Bounds.{Bounds}
-use Rattle.bh_spec.specs.Answers.{Answer}
 use Rattle.bh_base.specs.Steps.{Step, Chain, Either, Rose, ReadFacts, ReadLeaves, AreWithinRoom}
 use Rattle.bh_base.proofs.Chains.{chain_facts}
 use Rattle.bh_stream.specs.declared.streaming.End.TheVariants as end
 use Rattle.bh_canon.specs.declared.engine.CheckEnd.{CheckEnd}
 use Rattle.bh_canon.specs.declared.engine.CheckEnd.TheVariants as checks
-use Rattle.bh_canon.specs.Ends.{checked, end_of}
+use Rattle.bh_canon.specs.Ends.{checked}
 use Rattle.bh_canon.specs.Lending.{NoWrite}
 use Rattle.bh_canon.specs.Calls.{SourceCheck}
 use Rattle.bh_canon.specs.Telling.{Told, CheckTold, SourceTold, Completes, SourceCompletes}

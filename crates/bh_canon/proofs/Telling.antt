@@ -1,34 +1,31 @@
 -- What a port tells of a call, by what the call did.
-use Rattle.std.proofs.Common.{◌≡◌, ◌≤◌, ◌<◌, ◌+◌, ◌⊎◌, ℕ, zero, suc, Bool, true, false, ◌||◌, List, [], ◌∷◌, ◌++◌, length, take, Option, Some, None, IfSome, refl, sym, ◌∙◌, ap, subst, append-nil, append_assoc, length-append, inl, inr, arith}
+use Rattle.std.proofs.Common.{◌≡◌, ◌≤◌, ◌<◌, ◌+◌, ◌⊎◌, ℕ, zero, suc, Bool, true, false, ◌||◌, List, [], ◌∷◌, ◌++◌, length, take, Option, Some, None, IfSome, refl, sym, ◌∙◌, ap, subst, append-nil, length-append, inl, inr, arith}
 use Rattle.std.specs.List.{list_any}
 use Rattle.std.specs.Io.KnownBytes.{Consumes, Appends, IsAtEnd}
 use Rattle.std.proofs.lemmas.List.{take_all, take-append-le}
 use Rattle.std.proofs.lemmas.List.Folds.{list_any-append}
-use Rattle.bh_spec.specs.declared.Omitted.{Omitted}
 use Rattle.bh_spec.specs.declared.Refusal.{Refusal}
 use Rattle.bh_spec.specs.declared.Summary.{Summary}
 use Rattle.bh_spec.specs.Reports.{summary}
 use Rattle.bh_spec.specs.declared.Refusal.TheVariants.{Dead, Limit, Ended, TooLong}
 use Rattle.bh_spec.specs.Bounds.{Bounds, IsWithin}
 use Rattle.bh_spec.specs.Messages.{Message}
-use Rattle.bh_spec.specs.Texts.{Text}
 use Rattle.bh_spec.specs.Pieces.{SomeOf, IsText, CanBecome}
 use Rattle.bh_spec.specs.Viable.{IsMessageText, IsViable}
 use Rattle.bh_spec.proofs.Viable.{viable_less}
 use Rattle.bh_spec.proofs.Pieces.{next_becomes}
 use Rattle.bh_spec.specs.Answers.{Answer, whole, refused, IsAnswer, IsRefusedAt}
-use Rattle.bh_base.specs.Steps.{Step, Read, Write, BadRead, BadWrite, Rose, Counts, taken, given, met, meets_end, EndsReading, OnlyReads, OnlyWrites, IsQuiet, StopsAt, is_bad_read, is_bad_write, ReadFacts, WriteFacts, ReadLeaves, WriteLeaves, ChainFacts, Entry, Either, Meanings, AreWithinRoom, Asks}
+use Rattle.bh_base.specs.Steps.{Step, Read, Write, BadRead, BadWrite, Rose, Counts, taken, given, met, meets_end, EndsReading, OnlyReads, OnlyWrites, is_bad_read, is_bad_write, ReadFacts, WriteFacts, ReadLeaves, WriteLeaves, ChainFacts, Entry, Meanings}
 use Rattle.bh_base.specs.StepLaws.{taken-append, quiet_is, read_stops, write_stops, stayed, rose, writes_take_nothing}
 use Rattle.bh_base.proofs.Chains.{chain_facts}
 use Rattle.bh_decode.proofs.Answered.{one_answer}
 use Rattle.bh_push.specs.Pushes.{refused_at}
 use Rattle.bh_stream.specs.Logs.{Begins, IsLongest, GivesFront, ReadsTo}
-use Rattle.bh_stream.specs.Formats.{IsTextOf, GivesFronts}
-use Rattle.bh_stream.specs.Calls.{IsWhole, IsRefusal, StreamEnds, StreamCall}
-use Rattle.bh_stream.specs.Points.{one_read}
+use Rattle.bh_stream.specs.Messages.{IsTextOf, GivesFronts}
+use Rattle.bh_stream.specs.Calls.{IsRefusal, StreamEnds, StreamCall}
 use Rattle.bh_stream.specs.declared.streaming.End.{End}
 use Rattle.bh_stream.specs.declared.streaming.End.TheVariants as end
-use Rattle.bh_canon.specs.Ends.{IsOutput, end_of}
+use Rattle.bh_canon.specs.Ends.{end_of}
 use Rattle.bh_canon.specs.Telling.{BeginsAll, BeginsOwn, Told, Completes, IsTold, IsComplete}
 
 -- ---- the longest front of what was taken that goes on

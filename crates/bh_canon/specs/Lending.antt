@@ -1,5 +1,5 @@
 -- A source as a port.
-use Rattle.std.specs.Prelude.{◌≡◌, ◌≤◌, ℕ, true, List, Option, None}
+use Rattle.std.specs.Prelude.{◌≡◌, ◌≤◌, ℕ, None}
 use Rattle.bh_base.specs.Steps.{Step, BadWrite, Rose, WriteFacts}
 
 -- A write failed, and was counted.

@@ -4,3 +4,4 @@ pub mod Ends
 pub mod Telling
 pub mod Calls
 pub mod Laws
+pub mod Memory

@@ -13,7 +13,7 @@ use Rattle.bh_spec.specs.Reports.{summary}
 use Rattle.bh_base.specs.Steps.{Step, Read, Write, Entry, Took, Gave, Meanings, Rose, taken}
 use Rattle.bh_push.specs.Pushes.{refused_at}
 use Rattle.bh_stream.specs.Logs.{Begins, GivesFront, IsClose}
-use Rattle.bh_stream.specs.Formats.{IsTextOf}
+use Rattle.bh_stream.specs.Messages.{IsTextOf}
 use Rattle.bh_stream.specs.Points.{one_read}
 use Rattle.bh_stream.specs.declared.streaming.End.{End}
 use Rattle.bh_stream.specs.declared.streaming.End.TheVariants as end

@@ -1,5 +1,5 @@
 //! The engine.
-ghost use Rattle.std.specs.Prelude.{◌≡◌, IfOk};
+ghost use Rattle.std.specs.Prelude.{◌≡◌, ◌≤◌, ◌+◌, ◌*◌, ◌/◌, IfOk, unwrap_or};
 ghost use Rattle.bh_spec.specs.Canonical.{canon};
 ghost use Rattle.bh_spec.specs.Listing.{show};
 ghost use Rattle.bh_spec.specs.Viable.{IsMessageText};
@@ -9,9 +9,11 @@ ghost use Rattle.bh_stream.specs.Logs.{HasBody};
 ghost use Rattle.bh_listing.specs.Shown.{Shown};
 ghost use Rattle.bh_canon.specs.Calls.{CanonCall, ShowCall, SourceCheck};
 ghost use Rattle.bh_canon.specs.Ends.{checked, ended};
+ghost use Rattle.bh_canon.specs.Memory.{bytes_held, numbers_held};
 ghost use Rattle.bh_canon.specs.Telling.{IsTold, IsComplete, IsLogged, KeepsLog, SourceTold, SourceCompletes};
 
 use crate::lent::Lent;
+use crate::memory::Memory;
 use bh_base::{NoMemory, Port, Source};
 use bh_canonical::{CanonWriter, canonical};
 use bh_listing::{ListingWriter, listed};
@@ -21,8 +23,9 @@ use bh_stream::End;
 use std::alloc::Global;
 use std::marker::Model;
 
-/// The bytes that one read asks for, at most.
-const READ: usize = 8192;
+/// The bytes that one read asks for, at most. The 64 that it is short of 8,192 are those of the length of a chunk, and of a line of a
+/// listing; so buffer, chunk and line are no more than 16,384 bytes.
+const READ: usize = 8128;
 
 /// How a call that writes ended.
 #[derive(Clone, Copy, Debug, PartialEq, Eq)]
@@ -115,6 +118,22 @@ impl Engine {
             listing,
             buffer,
         })
+    }
+
+    /// What it holds between calls: all of its lists of bytes, and its indexes of lines.
+    pub fn memory(&self) -> Memory<'_>
+        ensures bytes { bytes_held result ≤ 4 * unwrap_or self.now.part 0 + unwrap_or self.now.section 0 + 16384 }
+        ensures numbers { numbers_held result ≤ 2 * (unwrap_or self.now.section 0 / 3 + 1) }
+    {
+        let shown = self.reading.decoder();
+        Memory {
+            control: shown.strings(),
+            fields: shown.fields(),
+            chunk: self.canonical.chunk(),
+            line: self.listing.waiting(),
+            buffer: self.buffer.as_slice(),
+            left_out: (self.canonical.left_out(), self.listing.left_out()),
+        }
     }
 
     /// Reads one message from the port and writes its canonical text to it, each chunk as soon as it is whole. It stops in the read that

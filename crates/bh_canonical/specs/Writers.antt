@@ -1,5 +1,5 @@
 -- What contracts see of a writer of canonical texts.
-use Rattle.std.specs.Prelude.{◌≡◌, ◌≤◌, ℕ, true, false, List, [], ◌∷◌, length, drop, vec_len, vec_capacity}
+use Rattle.std.specs.Prelude.{◌≡◌, ◌≤◌, ℕ, true, false, None, List, [], ◌∷◌, length, drop, vec_len, vec_capacity}
 use Rattle.bh_spec.specs.declared.Kind.TheVariants.{Response}
 use Rattle.bh_spec.specs.Bounds.{Bounds}
 use Rattle.bh_spec.specs.Items.{Item}
@@ -68,3 +68,4 @@ pub record IsWriter (w : Inside) : Type 0 where
   pub framed : IsFramed w.chunk.items
   pub stage : IsStage w.stage (drop 2 w.chunk.items)
   pub none : w.none.lines ≡ []
+  pub ended : w.none.making ≡ None

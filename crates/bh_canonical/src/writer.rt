@@ -1,5 +1,5 @@
 //! The job of a canonical text.
-ghost use Rattle.std.specs.Prelude.{◌≡◌, ◌≤◌, ◌∷◌, IfOk, length, drop, vec_capacity};
+ghost use Rattle.std.specs.Prelude.{◌≡◌, ◌≤◌, ◌+◌, [], ◌∷◌, None, IfOk, length, drop, vec_capacity};
 ghost use Rattle.bh_canonical.specs.Writers.{before_all};
 
 use crate::sending::{Stage, send_end, send_head, send_interim};
@@ -27,6 +27,14 @@ fn restart(chunk: &mut Vec<u8>, bytes: &[u8])
     chunk.clear();
     let _ = chunk.extend_from_slice(&LENGTH);
     let _ = chunk.extend_from_slice(bytes);
+}
+
+/// How many bytes make a chunk whole that holds so many.
+fn room_behind(held: usize) -> usize
+    requires { held ≤ 8194 }
+    ensures { result + held ≡ 8194 }
+{
+    WHOLE - held
 }
 
 /// The content of a chunk.
@@ -80,6 +88,21 @@ impl CanonWriter {
         restart(&mut self.chunk, &[]);
         self.stage = Stage::Start;
     }
+
+    /// The open chunk, behind the length of a whole one. It and the list of `left_out` are all lists of bytes that a writer holds.
+    pub fn chunk(&self) -> &[u8]
+        ensures { length result.now ≤ 8193 }
+    {
+        self.chunk.as_slice()
+    }
+
+    /// A trailer section that is left out: no line.
+    pub fn left_out(&self) -> &Fields
+        ensures lines { result.now.lines ≡ [] }
+        ensures making { result.now.making ≡ None }
+    {
+        &self.none
+    }
 }
 
 impl<S: Sink> Job<S, Reading> for CanonWriter {
@@ -97,7 +120,7 @@ impl<S: Sink> Job<S, Reading> for CanonWriter {
     ghost takes = { takes };
 
     fn content(&mut self, sink: &mut S, bytes: &[u8]) -> Result<(), Failed> {
-        let room = WHOLE - self.chunk.len();
+        let room = room_behind(self.chunk.len());
         if bytes.len() < room {
             let _ = self.chunk.extend_from_slice(bytes);
             return Ok(());

@@ -2,7 +2,7 @@
 ghost use Rattle.std.specs.Prelude.{◌≡◌, ◌↔◌, ℕ, [], IfOk};
 ghost use Rattle.bh_model.specs.Values.{control_lent};
 ghost use Rattle.bh_spec.specs.Pieces.{IsNext, Ends, GoesOn, IsDead, IsLimit};
-ghost use Rattle.bh_control.specs.Stored.{no_strings};
+ghost use Rattle.bh_control.specs.Stored.{AreWithin, no_strings};
 ghost use Rattle.bh_spec.specs.declared.Part.{Part as part_type};
 ghost use Rattle.bh_spec.specs.Readings.{reading, idle, Shows};
 ghost use Rattle.bh_control.specs.Control.{IsWanted, IsUnlimited, begun_state, IsBehind, IsLeft, Takes};
@@ -134,9 +134,11 @@ impl ControlReader {
         self.first_part()
     }
 
-    /// What was read of the control data, the scheme in lower case: between `Whole` and the next `begin` all of it.
+    /// What was read of the control data, the scheme in lower case: between `Whole` and the next `begin` all of it. Of the reader these
+    /// are all lists of bytes.
     pub fn view(&self) -> ControlView<'_>
-        ensures { control_lent result ≡ self.now.control }
+        ensures control { control_lent result ≡ self.now.control }
+        ensures within { AreWithin self.now.limits.part (control_lent result) }
     {
         self.progress.strings.view()
     }

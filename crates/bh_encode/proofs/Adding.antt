@@ -12,9 +12,6 @@ use Rattle.bh_model.specs.declared.informational.Interim as held
 use Rattle.bh_model.specs.Values.{control_of, interim_of, control_in}
 use Rattle.bh_encode.proofs.Putting.{line_more}
 
-pub length-string : (bytes : List ℕ) → length (string bytes) ≡ byte_count (least_width (length bytes)) + length bytes
-length-string bytes = length-append (int (length bytes)) bytes ∙ ap (λ (n : ℕ). n + length bytes) (length-vi (length bytes) (least_width (length bytes)))
-
 -- one line more, in bytes and in text
 pub bytes_more : (fields : List Field) (i : ℕ) (field : Field) → slice_get fields i ≡ Some field
     → length (lines (take (i + 1) fields)) ≡ length (lines (take i fields)) + (length (string field.name) + length (string field.value))

@@ -15,7 +15,7 @@ use Rattle.bh_spec.specs.Texts.{Text, mark}
 use Rattle.bh_varint.specs.Step.{IsUnfinished}
 use Rattle.bh_varint.proofs.Reading.{unfinished_nil}
 use Rattle.bh_model.specs.Rules.{IsNameBehind}
-use Rattle.bh_model.specs.Lines.{FieldsView, name_grown, value_grown}
+use Rattle.bh_model.specs.Lines.{FieldsView, name_grown_by, value_grown_by}
 use Rattle.bh_fields.specs.declared.walk.Phase.{Phase}
 use Rattle.bh_fields.specs.declared.walk.Phase.TheVariants as phases
 use Rattle.bh_spec.specs.declared.Judged.TheVariants as judged
@@ -103,15 +103,19 @@ name_begun p n bytes fields z h some one s =
 
 -- ---- the bytes of a name
 
--- the lines with a byte more of the name that is being made
-pub record IsNamedOn (byte : ℕ) (old new : FieldsView) : Type 0 where
+-- the lines with so many bytes more of the one that is being made
+pub record IsGrownBy (grow : Field → Field) (bytes : ℕ) (old new : FieldsView) : Type 0 where
   pub lines : new.lines ≡ old.lines
-  pub making : new.making ≡ option_map (name_grown byte) old.making
-  pub spare : new.spare + 1 ≡ old.spare
+  pub making : new.making ≡ option_map grow old.making
+  pub spare : new.spare + bytes ≡ old.spare
   pub free : new.free ≡ old.free
 
+-- with a byte more of its name
+abbrev pub IsNamedOn : ℕ → FieldsView → FieldsView → Type 0
+IsNamedOn byte old new = IsGrownBy (name_grown_by (byte ∷ [])) 1 old new
+
 making_name : (byte : ℕ) (name : List ℕ) (old new : FieldsView) → old.making ≡ making_of name [] → IsNamedOn byte old new → new.making ≡ making_of (name ++ to_ascii_lowercase byte ∷ []) []
-making_name byte name old new e s = s.making ∙ ap (option_map (name_grown byte)) e
+making_name byte name old new e s = s.making ∙ ap (option_map (name_grown_by (byte ∷ []))) e
 
 sized_named : (p : Point) (byte : ℕ) (name : List ℕ) (fields : FieldsView) → IsSized p → p.fields.making ≡ making_of name [] → IsNamedOn byte p.fields fields → IsSized (with_lines fields p)
 sized_named p byte name fields z e s = record {
@@ -288,11 +292,8 @@ value_begins p n z h some = (
 )
 
 -- the lines with a byte more of the value that is being made
-pub record IsValuedOn (byte : ℕ) (old new : FieldsView) : Type 0 where
-  pub lines : new.lines ≡ old.lines
-  pub making : new.making ≡ option_map (value_grown byte) old.making
-  pub spare : new.spare + 1 ≡ old.spare
-  pub free : new.free ≡ old.free
+abbrev pub IsValuedOn : ℕ → FieldsView → FieldsView → Type 0
+IsValuedOn byte old new = IsGrownBy (value_grown_by (byte ∷ [])) 1 old new
 
 -- the point behind a byte of a value
 abbrev pub valued_point : FieldsView → Point → Point
@@ -300,7 +301,7 @@ valued_point fields p = with_lines fields p
 
 making_value : (p : Point) (byte : ℕ) (name value : List ℕ) (fields : FieldsView) → p.fields.making ≡ making_of name value → IsValuedOn byte p.fields fields
     → fields.making ≡ making_of name (value ++ byte ∷ [])
-making_value p byte name value fields e s = s.making ∙ ap (option_map (value_grown byte)) e
+making_value p byte name value fields e s = s.making ∙ ap (option_map (value_grown_by (byte ∷ []))) e
 
 pub sized_valued : (p : Point) (byte : ℕ) (value : List ℕ) (m : ℕ) (fields : FieldsView) → IsSized p → InValue p value m → IsValuedOn byte p.fields fields
     → IsSized (valued_point fields p)

@@ -13,8 +13,9 @@ use Rattle.bh_varint.specs.Step.{IsWhole, IsUnfinished, GoesOn}
 use Rattle.bh_varint.proofs.Reading.{unfinished_nil}
 use Rattle.bh_fields.specs.declared.walk.Phase.{Phase}
 use Rattle.bh_fields.specs.declared.walk.Phase.TheVariants as phases
+use Rattle.bh_spec.specs.declared.Judged.{Judged}
 use Rattle.bh_spec.specs.declared.Judged.TheVariants as judged
-use Rattle.bh_fields.specs.Sets.{lines_set, names_set, values_set, free_room}
+use Rattle.bh_fields.specs.Sets.{lines_set, names_set, values_set, free_room, Refuses}
 use Rattle.bh_fields.specs.Bytewise.{Steps, HasNone, HasSome}
 use Rattle.bh_varint.specs.Numbers.{NumberThen}
 use Rattle.bh_fields.specs.Rests.{CanEnd, HasMore, NameBody, IsAtEnd}
@@ -93,23 +94,22 @@ length_stops p byte z h dead =
     number_stops parts.SectionLength (LengthAt p) p.number byte h.unfinished p.limits (lines_set (most_of p.limits))
     (length_only p.limits (spot_of p) (most_of p.limits) (most_to p z) h.known h.unused h.empty) dead
 
-pub length_limit : (p : Point) (byte : ℕ) (phase : Phase) → IsSized p → LengthState p → (SomeBegins (lines_set (most_of p.limits)) (p.number ++ byte ∷ []) → ⊥)
-    → SomeBegins (lines_set greatest) (p.number ++ byte ∷ []) → IsStep judged.Limit phases.SectionLength p byte phase (with_number [] p)
-length_limit p byte phase z h dead live = (
-  sized_number [] p z,
+pub length_refused : (p : Point) (byte : ℕ) (phase : Phase) (answer : Judged) → IsSized p → LengthState p → (SomeBegins (lines_set (most_of p.limits)) (p.number ++ byte ∷ []) → ⊥)
+    → Refuses (lines_set greatest) (p.number ++ byte ∷ []) answer → IsStep answer phases.SectionLength p byte phase p
+length_refused p byte phase judged.More z h dead r = absurd r
+length_refused p byte phase judged.Whole z h dead r = absurd r
+length_refused p byte phase judged.Limit z h dead r = (
+  z,
   record { limits = refl; form = refl; place = refl },
   length_stops p byte z h dead,
-  number_lives parts.SectionLength (LengthAt p) p.number byte no_bounds (lines_set greatest) (lengths_free p h) live,
+  number_lives parts.SectionLength (LengthAt p) p.number byte no_bounds (lines_set greatest) (lengths_free p h) r,
 )
-
-pub length_dead : (p : Point) (byte : ℕ) (phase : Phase) → IsSized p → LengthState p → (SomeBegins (lines_set (most_of p.limits)) (p.number ++ byte ∷ []) → ⊥)
-    → (SomeBegins (lines_set greatest) (p.number ++ byte ∷ []) → ⊥) → IsStep judged.Dead phases.SectionLength p byte phase (with_number [] p)
-length_dead p byte phase z h dead none = (
-  sized_number [] p z,
+length_refused p byte phase judged.Dead z h dead r = (
+  z,
   record { limits = refl; form = refl; place = refl },
   length_stops p byte z h dead,
   number_stops parts.SectionLength (LengthAt p) p.number byte h.unfinished no_bounds (lines_set greatest)
-      (length_only no_bounds (spot_of p) greatest (λ n g u. g) h.known h.unused h.empty) none,
+      (length_only no_bounds (spot_of p) greatest (λ n g u. g) h.known h.unused h.empty) r,
 )
 
 -- ---- between lines
@@ -223,27 +223,24 @@ line_stops p byte z h dead =
     number_stops parts.NameLength (NamesAt p) p.number byte h.unfinished p.limits (names_set p.form (part_of p.limits) (Some (p.total - p.used)))
     (name_only p.limits (spot_of p) (part_of p.limits) (Some (p.total - p.used)) (caps_of p z h.between.bounded h.between.room)) dead
 
-pub line_limit : (p : Point) (byte : ℕ) (phase : Phase) → IsSized p → LineState p
+pub line_refused : (p : Point) (byte : ℕ) (phase : Phase) (answer : Judged) → IsSized p → LineState p
     → (SomeBegins (names_set p.form (part_of p.limits) (Some (p.total - p.used))) (p.number ++ byte ∷ []) → ⊥)
-    → SomeBegins (names_set p.form greatest (free_room p.form (p.total - p.used))) (p.number ++ byte ∷ [])
-    → IsStep judged.Limit phases.NameLength p byte phase (with_number [] p)
-line_limit p byte phase z h dead live = (
-  sized_number [] p z,
+    → Refuses (names_set p.form greatest (free_room p.form (p.total - p.used))) (p.number ++ byte ∷ []) answer
+    → IsStep answer phases.NameLength p byte phase p
+line_refused p byte phase judged.More z h dead r = absurd r
+line_refused p byte phase judged.Whole z h dead r = absurd r
+line_refused p byte phase judged.Limit z h dead r = (
+  z,
   record { limits = refl; form = refl; place = refl },
   line_stops p byte z h dead,
-  number_lives parts.NameLength (NamesAt p) p.number byte no_bounds (names_set p.form greatest (free_room p.form (p.total - p.used))) (names_free p h.between) live,
+  number_lives parts.NameLength (NamesAt p) p.number byte no_bounds (names_set p.form greatest (free_room p.form (p.total - p.used))) (names_free p h.between) r,
 )
-
-pub line_dead : (p : Point) (byte : ℕ) (phase : Phase) → IsSized p → LineState p
-    → (SomeBegins (names_set p.form (part_of p.limits) (Some (p.total - p.used))) (p.number ++ byte ∷ []) → ⊥)
-    → (SomeBegins (names_set p.form greatest (free_room p.form (p.total - p.used))) (p.number ++ byte ∷ []) → ⊥)
-    → IsStep judged.Dead phases.NameLength p byte phase (with_number [] p)
-line_dead p byte phase z h dead none = (
-  sized_number [] p z,
+line_refused p byte phase judged.Dead z h dead r = (
+  z,
   record { limits = refl; form = refl; place = refl },
   line_stops p byte z h dead,
   number_stops parts.NameLength (NamesAt p) p.number byte h.unfinished no_bounds (names_set p.form greatest (free_room p.form (p.total - p.used)))
-      (name_only no_bounds (spot_of p) greatest (free_room p.form (p.total - p.used)) (caps_free p h.between.room)) none,
+      (name_only no_bounds (spot_of p) greatest (free_room p.form (p.total - p.used)) (caps_free p h.between.room)) r,
 )
 
 pub named_whole : (p : Point) (bytes : ℕ) → IsSized p → NamedState p 0 bytes → Moves judged.Whole (NamedAt p 0 bytes) p phases.Whole p
@@ -312,14 +309,16 @@ value_length_stops p byte z h dead fields t r =
     (value_only p.limits (spot_of p) (part_of p.limits) (Some (p.total - p.used)) h.name (caps_of p z h.valued.bounded h.valued.room)) dead
     fields t ((value_length_rest p h.name [] h.valued.making).forth p.limits fields ((parts.ValueLength, byte) ∷ t) r)
 
-pub value_length_limit : (p : Point) (byte : ℕ) (phase : Phase) → IsSized p → ValueLengthState p
+pub value_length_refused : (p : Point) (byte : ℕ) (phase : Phase) (answer : Judged) → IsSized p → ValueLengthState p
     → (SomeBegins (values_set p.form (part_of p.limits) (Some (p.total - p.used))) (p.number ++ byte ∷ []) → ⊥)
-    → SomeBegins (values_set p.form greatest (free_room p.form (p.total - p.used))) (p.number ++ byte ∷ [])
-    → IsStep judged.Limit phases.ValueLength p byte phase (with_number [] p)
-value_length_limit p byte phase z h dead live =
+    → Refuses (values_set p.form greatest (free_room p.form (p.total - p.used))) (p.number ++ byte ∷ []) answer
+    → IsStep answer phases.ValueLength p byte phase p
+value_length_refused p byte phase judged.More z h dead r = absurd r
+value_length_refused p byte phase judged.Whole z h dead r = absurd r
+value_length_refused p byte phase judged.Limit z h dead r =
     let some : HasSome (NumberText parts.ValueLength (ValuesAt p h.name) p.number) no_bounds parts.ValueLength byte =
-    number_lives parts.ValueLength (ValuesAt p h.name) p.number byte no_bounds (values_set p.form greatest (free_room p.form (p.total - p.used))) (values_free p h.name [] h.valued) live in (
-      sized_number [] p z,
+    number_lives parts.ValueLength (ValuesAt p h.name) p.number byte no_bounds (values_set p.form greatest (free_room p.form (p.total - p.used))) (values_free p h.name [] h.valued) r in (
+      z,
       record { limits = refl; form = refl; place = refl },
       value_length_stops p byte z h dead,
       record {
@@ -328,18 +327,13 @@ value_length_limit p byte phase z h dead live =
         rest = (value_length_rest p h.name [] h.valued.making).back no_bounds some.fields ((parts.ValueLength, byte) ∷ some.after) some.rest;
       },
     )
-
-pub value_length_dead : (p : Point) (byte : ℕ) (phase : Phase) → IsSized p → ValueLengthState p
-    → (SomeBegins (values_set p.form (part_of p.limits) (Some (p.total - p.used))) (p.number ++ byte ∷ []) → ⊥)
-    → (SomeBegins (values_set p.form greatest (free_room p.form (p.total - p.used))) (p.number ++ byte ∷ []) → ⊥)
-    → IsStep judged.Dead phases.ValueLength p byte phase (with_number [] p)
-value_length_dead p byte phase z h dead none = (
-  sized_number [] p z,
+value_length_refused p byte phase judged.Dead z h dead r = (
+  z,
   record { limits = refl; form = refl; place = refl },
   value_length_stops p byte z h dead,
-  λ fields t r. number_stops parts.ValueLength (ValuesAt p h.name) p.number byte h.unfinished no_bounds (values_set p.form greatest (free_room p.form (p.total - p.used)))
-      (value_only no_bounds (spot_of p) greatest (free_room p.form (p.total - p.used)) h.name (caps_free p h.valued.room)) none
-      fields t ((value_length_rest p h.name [] h.valued.making).forth no_bounds fields ((parts.ValueLength, byte) ∷ t) r),
+  λ fields t x. number_stops parts.ValueLength (ValuesAt p h.name) p.number byte h.unfinished no_bounds (values_set p.form greatest (free_room p.form (p.total - p.used)))
+      (value_only no_bounds (spot_of p) greatest (free_room p.form (p.total - p.used)) h.name (caps_free p h.valued.room)) r
+      fields t ((value_length_rest p h.name [] h.valued.making).forth no_bounds fields ((parts.ValueLength, byte) ∷ t) x),
 )
 
 pub value_length_step : (p : Point) (byte n : ℕ) (w : Width) (number : List ℕ) (h : ValueLengthState p)

@@ -1,11 +1,12 @@
 -- What the answers of a reader of sections say, from what it stores.
-use Rattle.std.specs.Prelude.{ℕ, ◌≡◌, List, [], take}
+use Rattle.std.specs.Prelude.{ℕ, ◌≡◌, ◌+◌, ◌*◌, List, [], length, take}
 use Rattle.bh_spec.specs.declared.PieceStep.{PieceStep}
 use Rattle.bh_spec.specs.declared.PieceStep.TheVariants.{Need, Whole, Dead, Limit}
-use Rattle.bh_spec.specs.Bounds.{no_bounds}
+use Rattle.bh_spec.specs.Bounds.{Bounds, IsWithin, no_bounds}
 use Rattle.bh_spec.specs.Texts.{Text}
 use Rattle.bh_spec.specs.Pieces.{SomeOf}
 use Rattle.bh_spec.specs.Readings.{reading, StoodBefore, stage_behind}
+use Rattle.bh_model.specs.Lines.{FieldsView, lines_room, making_room, making_count}
 use Rattle.bh_fields.specs.Middle.{SectionView, Rest}
 use Rattle.bh_fields.specs.Views.{Leads, IsSameSection}
 
@@ -37,3 +38,8 @@ pub record IsBehind (v : SectionView) (piece : List ℕ) (step : PieceStep) (w :
   pub stage : w.stage ≡ stage_behind step
   pub leads : LeadsTo v piece step w
   pub stood : StoodBefore (IsOnTheWay v) piece step
+
+-- The lines, with the one that is being made, fit the limit on a section: their bytes and two for each, and three for each.
+pub record AreStored (L : Bounds) (fields : FieldsView) : Type 0 where
+  pub bytes : IsWithin L.section (lines_room fields.lines + making_room fields.making)
+  pub count : IsWithin L.section (3 * (length fields.lines + making_count fields.making))

@@ -7,7 +7,7 @@ ghost use Rattle.bh_fields.specs.Middle.{new_view, begun_view, first_of};
 ghost use Rattle.bh_fields.specs.Bytewise.{IsLeft};
 ghost use Rattle.bh_fields.specs.Middle.{Rest as rest_of};
 ghost use Rattle.bh_fields.specs.Views.{Takes};
-ghost use Rattle.bh_fields.specs.Readers.{IsWanted, IsUnlimited, IsBehind, IsOnTheWay};
+ghost use Rattle.bh_fields.specs.Readers.{IsWanted, IsUnlimited, IsBehind, IsOnTheWay, AreStored};
 
 use crate::walk::{Phase, Walk};
 use bh_base::NoMemory;
@@ -155,10 +155,11 @@ impl SectionReader {
         self.first_part()
     }
 
-    /// The lines. Between `Whole` and the next `begin` they are the section's.
+    /// The lines. Between `Whole` and the next `begin` they are the section's. The reader's one list of bytes and its index are theirs.
     pub fn fields(&self) -> &Fields
         ensures lines { result.now.lines ≡ self.now.lines }
         ensures whole { self.now.stage ≡ whole → result.now.making ≡ None }
+        ensures stored { AreStored self.now.limits result.now }
     {
         &self.walk.fields
     }

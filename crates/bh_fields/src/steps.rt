@@ -1,7 +1,7 @@
 //! What a byte makes of a section.
 ghost use Rattle.std.specs.Prelude.{◌≡◌, ℕ, true, false, ◌<◌, ◌≤◌, ◌↔◌, List, ◌++◌, ◌∷◌, [], All, length, take, IsTrue};
 ghost use Rattle.std.specs.Char.{to_ascii_lowercase};
-ghost use Rattle.bh_spec.specs.Bytes.{lower, is_value};
+ghost use Rattle.bh_spec.specs.Bytes.{lower, is_token, is_value};
 ghost use Rattle.bh_spec.specs.Messages.{IsControlName};
 ghost use Rattle.bh_fields.specs.Names.{NameTakes, IsValueByte, flag_behind};
 ghost use Rattle.bh_fields.specs.Sets.{free_room};
@@ -9,11 +9,11 @@ ghost use Rattle.bh_fields.specs.Points.{Point, point_of, RestOf, LinesAt, Named
 ghost use Rattle.bh_fields.specs.Stepping.{Moves, IsStep, IsRun};
 ghost use Rattle.bh_fields.specs.States.{IsFull, LengthState, NextState, LineState, NamedState, NameState, ValueLengthState, InValue, ValueState, ReadingAt};
 
-use crate::sets::{Read, judge, length_set, name_set, value_set};
+use crate::sets::{judge, length_set, name_set, refusal, value_set};
 use crate::walk::{Phase, Walk};
 use bh_model::Form;
 use bh_spec::Judged;
-use bh_varint::GREATEST;
+use bh_varint::{GREATEST, Step};
 
 /// Whether the name is one of control data with the byte behind it, in any case of letters (RFC 9113, section 8.3). Each
 /// of the five ends by another letter.
@@ -80,19 +80,46 @@ fn value_front(bytes: &[u8], missing: u64) -> &[u8]
     ensures fewer { length result.now < missing }
     ensures each { All (λ byte. IsTrue (is_value byte)) result.now }
 {
-    let inner = first_of(bytes, missing - 1);
+    let inner = fewer_of(bytes, missing);
     match inner.iter().position(|&byte| !bh_base::is_value(byte)) {
         Some(at) => front_of(inner, at),
         None => inner,
     }
 }
 
-/// The first bytes, at most so many.
-fn first_of(bytes: &[u8], most: u64) -> &[u8]
+/// The token bytes at the front, fewer than are missing.
+fn name_front(bytes: &[u8], missing: u64) -> &[u8]
+    requires { 0 < missing }
     ensures front { result.now ≡ take (length result.now) bytes.now }
-    ensures most { length result.now ≤ most }
+    ensures fewer { length result.now < missing }
+    ensures each { All (λ byte. IsTrue (is_token byte)) result.now }
 {
-    front_of(bytes, most.min(bytes.len() as u64) as usize)
+    let inner = fewer_of(bytes, missing);
+    front_of(inner, token_count(inner))
+}
+
+/// How many bytes of a token stand at the front.
+fn token_count(bytes: &[u8]) -> usize
+    ensures within { result ≤ length bytes.now }
+    ensures each { All (λ byte. IsTrue (is_token byte)) (take result bytes.now) }
+{
+    let mut count = 0;
+    while count < bytes.len() {
+        if !bh_base::is_token(bytes[count]) {
+            return count;
+        }
+        count += 1;
+    }
+    count
+}
+
+/// The bytes at the front, fewer than are missing.
+fn fewer_of(bytes: &[u8], missing: u64) -> &[u8]
+    requires { 0 < missing }
+    ensures front { result.now ≡ take (length result.now) bytes.now }
+    ensures fewer { length result.now < missing }
+{
+    front_of(bytes, (missing - 1).min(bytes.len() as u64) as usize)
 }
 
 /// The first `count` bytes.
@@ -131,7 +158,7 @@ impl Walk {
         }
     }
 
-    /// Takes the bytes at the front that stand inside a value, neither its first nor its last, and says how many there are.
+    /// Takes the bytes at the front that stand inside a name or a value, neither its first nor its last, and says how many there are.
     pub fn take_inner(&mut self, bytes: &[u8]) -> usize
         requires sized { IsSized (point_of self.old) }
         requires reading { ReadingAt self.old.phase (point_of self.old) }
@@ -139,6 +166,7 @@ impl Walk {
         ensures run { IsRun self.old.phase (point_of self.old) (take result bytes.now) self.new.phase (point_of self.new) }
     {
         match self.phase {
+            Phase::Name { missing } => self.take_names(bytes, missing),
             Phase::Value { missing, first } => {
                 if first {
                     return 0;
@@ -147,6 +175,25 @@ impl Walk {
             }
             _ => 0,
         }
+    }
+
+    /// Takes the bytes at the front that stand inside a name of which so many bytes are missing, but no first byte.
+    fn take_names(&mut self, bytes: &[u8], missing: u64) -> usize
+        requires phase { self.old.phase ≡ Phase.Name missing }
+        requires sized { IsSized (point_of self.old) }
+        requires state { NameState (point_of self.old) missing }
+        ensures within { result ≤ length bytes.now }
+        ensures run { IsRun (Phase.Name missing) (point_of self.old) (take result bytes.now) self.new.phase (point_of self.new) }
+    {
+        if self.fields.begun_name().is_empty() {
+            return 0;
+        }
+        let inner = name_front(bytes, missing);
+        self.fields.put_names(inner);
+        self.phase = Phase::Name {
+            missing: missing - inner.len() as u64,
+        };
+        inner.len()
     }
 
     /// Takes the bytes at the front that stand inside a value of which so many bytes are missing.
@@ -173,15 +220,16 @@ impl Walk {
         ensures { IsStep result Phase.SectionLength (point_of self.old) byte self.new.phase (point_of self.new) }
     {
         let within = length_set(self.limits.section());
-        let free = length_set(GREATEST);
-        match judge(&mut self.number, byte, &within, &free) {
-            Read::More => Judged::More,
-            Read::Value { value, width: _ } => {
+        match judge(&mut self.number, byte, &within) {
+            Step::More => Judged::More,
+            Step::Value { value, width: _ } => {
                 self.total = value;
                 self.next_line()
             }
-            Read::Limit => Judged::Limit,
-            Read::Dead => Judged::Dead,
+            Step::Dead => {
+                let free = length_set(GREATEST);
+                refusal(&self.number, byte, &free)
+            }
         }
     }
 
@@ -194,12 +242,13 @@ impl Walk {
     {
         let room = self.total - self.used;
         let within = name_set(self.form, self.limits.part(), Some(room));
-        let free = name_set(self.form, GREATEST, room_without_limits(self.form, room));
-        match judge(&mut self.number, byte, &within, &free) {
-            Read::More => Judged::More,
-            Read::Value { value, width } => { self.begin_name(value, width.bytes() as u64) }
-            Read::Limit => Judged::Limit,
-            Read::Dead => Judged::Dead,
+        match judge(&mut self.number, byte, &within) {
+            Step::More => Judged::More,
+            Step::Value { value, width } => { self.begin_name(value, width.bytes() as u64) }
+            Step::Dead => {
+                let free = name_set(self.form, GREATEST, room_without_limits(self.form, room));
+                refusal(&self.number, byte, &free)
+            }
         }
     }
 
@@ -231,7 +280,7 @@ impl Walk {
             return Judged::Dead;
         }
         self.may_be_pseudo = is_pseudo_with(front, byte, self.may_be_pseudo);
-        self.fields.put_name(byte);
+        self.fields.put_names(&[byte]);
         if missing > 1 {
             self.phase = Phase::Name {
                 missing: missing - 1,
@@ -251,15 +300,16 @@ impl Walk {
     {
         let room = self.total - self.used;
         let within = value_set(self.form, self.limits.part(), Some(room));
-        let free = value_set(self.form, GREATEST, room_without_limits(self.form, room));
-        match judge(&mut self.number, byte, &within, &free) {
-            Read::More => Judged::More,
-            Read::Value { value, width } => {
+        match judge(&mut self.number, byte, &within) {
+            Step::More => Judged::More,
+            Step::Value { value, width } => {
                 self.used += width.bytes() as u64 + value;
                 self.begin_value(value)
             }
-            Read::Limit => Judged::Limit,
-            Read::Dead => Judged::Dead,
+            Step::Dead => {
+                let free = value_set(self.form, GREATEST, room_without_limits(self.form, room));
+                refusal(&self.number, byte, &free)
+            }
         }
     }
 
@@ -288,7 +338,7 @@ impl Walk {
         if !is_value_byte(byte, missing, first) {
             return Judged::Dead;
         }
-        self.fields.put_value(byte);
+        self.fields.put_values(&[byte]);
         if missing == 1 {
             return self.end_line();
         }

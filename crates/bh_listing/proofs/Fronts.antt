@@ -6,7 +6,7 @@ use Rattle.bh_spec.specs.Listing.{Line, a_request, a_response, method, scheme, a
 use Rattle.bh_spec.proofs.ListingTexts.{until}
 use Rattle.bh_spec.proofs.Listings.{message_fine, texts_avoid}
 use Rattle.bh_stream.specs.Outputs.{Output, plain, written, shown_in}
-use Rattle.bh_stream.specs.Formats.{ShowsContent}
+use Rattle.bh_stream.specs.Messages.{items_in, ShowsMessages}
 use Rattle.bh_stream.proofs.Outputs.{written-append, written_plain, shown-append, shown_plain}
 use Rattle.bh_text.proofs.Digits.{two_each}
 use Rattle.bh_listing.specs.Owed.{at_start, content_of, lines_owed, output, owed}
@@ -82,8 +82,8 @@ in_front (line ∷ lines) clean front more e n s = by_case (either_at (plain (te
         let inside = before h.0 more h.2 next.0 next.1 in
         omega (arith, inside, next.2, spelled_is line, ap shown_in h.1, shown-append (plain (text_of line)) ((content_of line, 10) ∷ h.0), shown_plain (text_of line))
 
-pub shows_content : (L : Bounds) → ShowsContent L Shown (owed at_start)
-shows_content L q t h front more e n s =
-    let m = h.0 in
-    let lines : lines_owed at_start q ≡ lines_of m = ap (lines_owed at_start) h.3 ∙ lines_at_start L m h.1 h.2 t h.4 in
-    in_front (lines_of m) (texts_avoid (lines_of m) (message_fine m h.4.valid)) front more (sym (ap output lines) ∙ e) n s
+pub shows_content : (L : Bounds) → ShowsMessages L Shown (owed at_start)
+shows_content L s t h front more e n shown =
+    let m = s.message in
+    let lines : lines_owed at_start (items_in s) ≡ lines_of m = lines_at_start L m s.omitted s.padding t h in
+    in_front (lines_of m) (texts_avoid (lines_of m) (message_fine m h.valid)) front more (sym (ap output lines) ∙ e) n shown

@@ -2,13 +2,14 @@
 ghost use Rattle.std.specs.Prelude.{◌≡◌, Some, List};
 ghost use Rattle.bh_spec.specs.Messages.{Field};
 ghost use Rattle.bh_spec.specs.Items.{Head};
+ghost use Rattle.bh_spec.specs.declared.Kind.TheVariants.{Response};
 ghost use Rattle.bh_push.specs.Hands.{kind_of_head};
 ghost use Rattle.bh_base.specs.Batches.{Writes};
-ghost use Rattle.bh_text.specs.Showing.{text_of, after};
+ghost use Rattle.bh_text.specs.Showing.{text_of, after, interim_call};
 ghost use Rattle.bh_listing.specs.Owed.{for_kind, head_call};
 
 use bh_base::{Failed, Sink};
-use bh_model::Kind;
+use bh_model::{Fields, Kind};
 use bh_push::Decoder;
 use bh_text::ShowWriter;
 
@@ -19,6 +20,22 @@ pub(crate) fn start(writer: &mut ShowWriter, kind: Kind)
     if !writer.has_begun() {
         *writer = ShowWriter::begin(kind);
     }
+}
+
+/// Sends the lines of an interim response.
+pub(crate) fn send_interim<S: Sink>(
+    writer: &mut ShowWriter,
+    sink: &mut S,
+    status: u16,
+    fields: &Fields,
+) -> Result<(), Failed>
+    ensures wrote { Writes S.write_step sink.old (text_of (for_kind Response writer.old)
+        (interim_call (record { status = status; fields = fields.now.lines }))) result sink.new }
+    ensures next { writer.new
+        ≡ after (for_kind Response writer.old) (interim_call (record { status = status; fields = fields.now.lines })) }
+{
+    start(writer, Kind::Response);
+    writer.interim(sink, status, fields)
 }
 
 /// Sends the head that the decoder shows.

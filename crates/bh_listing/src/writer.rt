@@ -1,8 +1,8 @@
 //! The job of a listing.
-ghost use Rattle.std.specs.Prelude.{◌≡◌, IfOk};
+ghost use Rattle.std.specs.Prelude.{◌≡◌, ◌≤◌, [], None, IfOk, length};
 ghost use Rattle.bh_listing.specs.Owed.{at_start};
 
-use crate::sending::{send_head, start};
+use crate::sending::{send_head, send_interim};
 use bh_base::{Failed, NoMemory, Sink};
 use bh_model::{Fields, Kind};
 use bh_reading::Reading;
@@ -22,14 +22,14 @@ pub struct ListingWriter {
 }
 
 impl Model for ListingWriter {
-    ghost use Rattle.std.specs.Prelude.{◌≡◌, []};
+    ghost use Rattle.std.specs.Prelude.{◌≡◌, [], None};
     ghost use Rattle.bh_listing.specs.Owed.{Lister};
 
     ghost Value = { Lister };
 
     ghost view = { λ w. record { writer = w.writer; ended = w.ended } };
 
-    ghost invariant = { λ w. w.none.lines ≡ [] };
+    ghost invariant = { λ w. (w.none.lines ≡ []) × (w.none.making ≡ None) };
 }
 
 impl ListingWriter {
@@ -51,6 +51,21 @@ impl ListingWriter {
     {
         self.writer = ShowWriter::begin(Kind::Request);
         self.ended = false;
+    }
+
+    /// The content that isn't in a line yet. It and the list of `left_out` are all lists of bytes that a writer holds.
+    pub fn waiting(&self) -> &[u8]
+        ensures { length result.now ≤ 31 }
+    {
+        self.writer.waiting()
+    }
+
+    /// A trailer section that is left out: no line.
+    pub fn left_out(&self) -> &Fields
+        ensures lines { result.now.lines ≡ [] }
+        ensures making { result.now.making ≡ None }
+    {
+        &self.none
     }
 }
 
@@ -76,8 +91,7 @@ impl<S: Sink> Job<S, Reading> for ListingWriter {
         let shown = decoder.decoder();
         match event {
             Event::Interim { status } => {
-                start(&mut self.writer, Kind::Response);
-                self.writer.interim(sink, status, shown.fields())
+                send_interim(&mut self.writer, sink, status, shown.fields())
             }
             Event::Head => send_head(&mut self.writer, sink, shown),
             Event::Trailers => {

@@ -2,7 +2,7 @@
 ghost use Rattle.std.specs.Prelude.{◌≡◌, ◌≤◌, ◌<◌, ◌↔◌, ◌⊎◌, ◌+◌, ◌*◌, ◌/◌, ◌^◌, ◌++◌, ◌∷◌, [], ℕ, Some, None, IfOk, IsTrue, IsSome, IsSomeAnd, IsNone, IfSome, option_map, option_to_list, length, take, slice_get, slice_range, vec_len, vec_capacity};
 ghost use Rattle.bh_spec.specs.Bytes.{lower};
 ghost use Rattle.bh_spec.specs.Messages.{IsToken, IsPseudo};
-ghost use Rattle.bh_model.specs.Lines.{lines_room, making_room, making_count, name_grown, name_grown_by, value_grown, value_grown_by, end_of, begun_count};
+ghost use Rattle.bh_model.specs.Lines.{lines_room, making_room, making_count, name_grown_by, value_grown_by, end_of, begun_count};
 ghost use Rattle.bh_model.specs.Rules.{IsFirstBroken, line_rules, AreLines};
 
 use crate::check;
@@ -138,20 +138,19 @@ impl Fields {
         self.making = Some(self.bytes.len());
     }
 
-    /// Adds a byte to the name of the line that is being made.
+    /// Adds a byte to the name of the line that is being made, in lower case.
     pub fn put_name(&mut self, byte: u8)
         requires making { IsSomeAnd self.old.making (λ line. line.value ≡ []) }
         requires spare { 1 ≤ self.old.spare }
         ensures lines { self.new.lines ≡ self.old.lines }
-        ensures making { self.new.making ≡ option_map (name_grown byte) self.old.making }
+        ensures making { self.new.making ≡ option_map (name_grown_by (byte ∷ [])) self.old.making }
         ensures spare { self.new.spare + 1 ≡ self.old.spare }
         ensures free { self.new.free ≡ self.old.free }
     {
-        self.bytes.push_reserved(bh_base::lower(byte));
-        self.making = Some(self.bytes.len());
+        self.put_names(&[byte]);
     }
 
-    /// Adds bytes to the name of the line that is being made.
+    /// Adds bytes to the name of the line that is being made, in lower case.
     pub fn put_names(&mut self, bytes: &[u8])
         requires making { IsSomeAnd self.old.making (λ line. line.value ≡ []) }
         requires spare { length bytes.now ≤ self.old.spare }
@@ -169,11 +168,11 @@ impl Fields {
         requires making { IsSomeAnd self.old.making (λ line. 0 < length line.name) }
         requires spare { 1 ≤ self.old.spare }
         ensures lines { self.new.lines ≡ self.old.lines }
-        ensures making { self.new.making ≡ option_map (value_grown byte) self.old.making }
+        ensures making { self.new.making ≡ option_map (value_grown_by (byte ∷ [])) self.old.making }
         ensures spare { self.new.spare + 1 ≡ self.old.spare }
         ensures free { self.new.free ≡ self.old.free }
     {
-        self.bytes.push_reserved(byte);
+        self.put_values(&[byte]);
     }
 
     /// Adds bytes to the value of the line that is being made.

@@ -265,13 +265,6 @@ length_whole L form set begun byte n w un whole = record {
 
 -- ---- the bytes of content
 
--- a run of content, cut behind so many bytes
-record RunCut (x : List ℕ) (m : ℕ) (content : List ℕ) (u : Text) : Type 0 where
-  later : List ℕ
-  whole : content ≡ x ++ later
-  long : length later ≡ m
-  joined : u ≡ mark parts.Content x ++ mark parts.Content later
-
 cut_run : (x : List ℕ) (m : ℕ) (content more y : List ℕ) → length content ≡ length x + m → content ++ y ≡ x ++ more → (later : List ℕ) × (content ≡ x ++ later) × (length later ≡ m)
 cut_run [] m content more y long e = (content, refl, omega (arith, long))
 cut_run (b ∷ x) m [] more y long e = absurd (omega (arith, long))

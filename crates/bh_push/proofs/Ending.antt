@@ -73,9 +73,6 @@ ends_by c end (stages.Padding before) e =
     let same : record { omitted = _; padding = before } ≡ end = cc in
     (0, ap (λ (x : End). ending x.omitted x.padding ∷ []) (sym same) ∙ ap (λ (n : ℕ). ending Nothing n ∷ []) (let z : before ≡ before + 0 = omega arith in z), refl)
 
-pub ends_at : (c : Course) (end : End) → end_at c.stage c.body.phase ≡ Some end → Rest c.limits (place_of c) (ending end.omitted end.padding ∷ []) []
-ends_at c end e = ends_by c end c.stage e
-
 -- ---- or it may not
 
 pub no_end : (o : Option End) → ((end : End) → o ≡ Some end → ⊥) → o ≡ None

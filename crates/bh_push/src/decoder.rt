@@ -3,6 +3,8 @@ ghost use Rattle.std.specs.Prelude.{◌≡◌, [], IfOk, IfErr, IfSome, None, op
 ghost use Rattle.bh_spec.specs.Pieces.{IsNext};
 ghost use Rattle.bh_spec.specs.Runs.{Any};
 ghost use Rattle.bh_model.specs.Values.{control_lent};
+ghost use Rattle.bh_control.specs.Stored.{AreWithin};
+ghost use Rattle.bh_fields.specs.Readers.{AreStored};
 ghost use Rattle.bh_push.specs.Decoders.{Rest};
 ghost use Rattle.bh_push.specs.Pushes.{Finishes, Fails};
 ghost use Rattle.bh_push.specs.Kinds.{IsSameKind};
@@ -225,8 +227,17 @@ impl Decoder {
     pub fn fields(&self) -> &Fields
         ensures lines { IfSome self.now.lines (λ lines. result.now.lines ≡ lines) }
         ensures whole { IfSome self.now.lines (λ lines. result.now.making ≡ None) }
+        ensures stored { AreStored self.now.decoder.limits result.now }
     {
         self.course.section.fields()
+    }
+
+    /// The control data as far as it is stored, of this request or one before. These four and the one of `fields` are all lists of bytes
+    /// that a decoder holds, and the index of `fields` is its only one.
+    pub fn strings(&self) -> ControlView<'_>
+        ensures { AreWithin self.now.decoder.limits.part (control_lent result) }
+    {
+        self.course.control.view()
     }
 
     /// How many bytes were taken since the start of the message; after a refusal its place.

@@ -78,7 +78,7 @@ pub need_on : (v : Counted) → IsReady v → (piece : List ℕ) (h : Held) → 
 need_on v r piece h handed =
     let w : Counted = record { held = h; kind = v.kind; lines = v.lines; content = v.content } in
     let moved : Moved v piece [] w = subst (λ (l : List ℕ). Moved v l [] w) (take_all (length piece) piece (omega arith))
-        (moved_on v r piece (length piece) [] h handed v.kind v.lines v.content refl (omega (arith, r.lines)) (omega (arith, r.content))) in
+    (moved_on v r piece (length piece) [] h handed v.kind v.lines v.content refl (omega (arith, r.lines)) (omega (arith, r.content))) in
     (moved, inl (alive_behind v w piece [] moved))
 
 -- what is shown of something that is there

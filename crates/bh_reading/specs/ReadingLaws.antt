@@ -67,8 +67,7 @@ leads v w x i m =
 -- behind what was taken something completes the message
 pub alive_behind : (v w : Counted) (x : List ℕ) (i : List Item) → Moved v x i w → IsAlive rest w
 alive_behind v w x i m =
-    let alive = m.comes.goes_on in
-    (
+    let alive = m.comes.goes_on in (
       alive.spelled.0,
       alive.text,
       subst (λ (L : Bounds). rest_at L w.held.decoder.at alive.spelled.0 alive.text) (sym m.limits) alive.spelled.1,

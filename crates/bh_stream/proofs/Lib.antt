@@ -13,3 +13,5 @@ pub mod Formats
 pub mod Messages
 pub mod Calls
 pub mod Silent
+pub mod Telling
+pub mod Tails

@@ -8,3 +8,5 @@ pub mod Runs
 pub mod Formats
 pub mod Messages
 pub mod Calls
+pub mod Telling
+pub mod Tails

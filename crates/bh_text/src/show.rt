@@ -80,6 +80,14 @@ impl ShowWriter {
         self.begun
     }
 
+    /// The content that isn't in a line yet: all the bytes that a writer holds.
+    pub fn waiting(&self) -> &[u8]
+        ensures bytes { result.now ≡ self.now.waiting }
+        ensures few { length result.now ≤ 31 }
+    {
+        self.waiting.as_slice()
+    }
+
     /// Sends the lines of an interim response.
     pub fn interim<S: Sink>(
         &mut self,

@@ -14,21 +14,21 @@ use Rattle.h1_body.specs.declared.line.Line.{Line}
 use Rattle.h1_body.specs.declared.line.Line.TheVariants as lines
 use Rattle.h1_body.specs.declared.content.Phase.{Phase}
 use Rattle.h1_body.specs.declared.content.Phase.TheVariants as phases
-use Rattle.h1_body.specs.Contents.{at_of, NotOver, IsValid, IsReading, IsBetween, IsChunking, phase_behind, chunk_behind, why_not, Becomes, AwaitsMore, NoneMissing, IsRun}
+use Rattle.h1_body.specs.Contents.{at_of, NotOver, IsValid, IsReading, IsBetween, IsChunking, phase_behind, chunk_behind, why_not, Becomes, AwaitsMore, NoneMissing, IsBehindContent, IsRun}
 use Rattle.h1_spec.proofs.BodySteps.{moves_on}
 use Rattle.h1_spec.proofs.LineSteps.{IsOpen, line_step, line_end, cause_of, line_dead, line_full, line_unended}
-use Rattle.h1_spec.proofs.ChunkSteps.{chunk_run, chunk_over, count_run, end_run, end_lf, chunk_unended, count_unended, cr_missing, lf_missing}
+use Rattle.h1_spec.proofs.ChunkSteps.{chunk_run, chunk_over, count_run, end_run, end_cr, end_lf, chunk_unended, count_unended, cr_missing, lf_missing}
 
 -- ---- chunk lines
 
-few_of : (line : Line) → IsSmall line → IsFew 15 (state_of line)
+pub few_of : (line : Line) → IsSmall line → IsFew 15 (state_of line)
 few_of (lines.Digits count number) h = h.0
 few_of (lines.Blanks size) h = tt
 few_of (lines.Extension size) h = tt
 few_of (lines.BehindCr size) h = tt
 few_of (lines.Ended size) h = tt
 
-open_of : (line : Line) → NotOver line → IsOpen (state_of line)
+pub open_of : (line : Line) → NotOver line → IsOpen (state_of line)
 open_of (lines.Digits count number) h size e = absurd cc
 open_of (lines.Blanks own) h size e = absurd cc
 open_of (lines.Extension own) h size e = absurd cc
@@ -89,6 +89,11 @@ lf_at phase b e f =
     subst (λ (p : Phase). Becomes (at_of p) (b ∷ []) [] (start Chunked)) (sym e)
     (subst (λ (x : ℕ). Becomes behind_cr (x ∷ []) [] (start Chunked)) (sym f) end_lf)
 
+pub cr_at : (phase : Phase) (b : ℕ) → phase ≡ phases.ChunkEnd → b ≡ 13 → Becomes (at_of phase) (b ∷ []) [] behind_cr
+cr_at phase b e f =
+    subst (λ (p : Phase). Becomes (at_of p) (b ∷ []) [] behind_cr) (sym e)
+    (subst (λ (x : ℕ). Becomes behind_chunk (x ∷ []) [] behind_cr) (sym f) end_cr)
+
 -- ---- content
 
 pub count_at : (phase : Phase) (missing : ℕ) (rest bytes : List ℕ) → phase ≡ phases.Count missing → IsReading phase → 0 < length rest → bytes ≡ take (min missing (length rest)) rest
@@ -102,6 +107,7 @@ count_at phase missing rest bytes e reading some cut =
         | inl lt ↦ inl (omega (arith, long, lt))
         | inr ge ↦ inr (omega (arith, ge))
       ];
+      place = tt;
     })
   where
     m : ℕ
@@ -127,6 +133,10 @@ chunk_none : (m : ℕ) → m ≡ 0 → NoneMissing (at_of (chunk_behind m))
 chunk_none zero e = tt
 chunk_none (suc m) e = absurd (omega (arith, e))
 
+chunk_place : (m : ℕ) → IsBehindContent (at_of (chunk_behind m))
+chunk_place zero = tt
+chunk_place (suc m) = tt
+
 pub chunk_at : (phase : Phase) (missing : ℕ) (rest bytes : List ℕ) → phase ≡ phases.Chunk missing → IsValid phase → 0 < length rest → bytes ≡ take (min missing (length rest)) rest
     → IsRun (at_of phase) rest bytes (at_of (chunk_behind (missing - length bytes)))
 chunk_at phase missing rest bytes e valid some cut =
@@ -138,6 +148,7 @@ chunk_at phase missing rest bytes e valid some cut =
         | inl lt ↦ inl (omega (arith, long, lt))
         | inr ge ↦ inr (chunk_none m (omega (arith, ge)))
       ];
+      place = chunk_place m;
     })
   where
     m : ℕ
@@ -158,6 +169,7 @@ end_at phase rest e some = subst (λ (p : Phase). IsRun (at_of p) rest rest (at_
   front = ([], sym (append-nil rest));
   becomes = λ L. end_run L rest;
   all = inl refl;
+  place = tt;
 })
 
 -- ---- the end, where more is missing

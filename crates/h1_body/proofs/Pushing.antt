@@ -24,6 +24,7 @@ content_says v w u piece bytes i h b r = record {
   ends = (take i piece, joined);
   becomes = λ L. subst (λ (z : List ℕ). Moves L v z bytes u) (sym joined) (moves_on L v w u (take i piece) bytes [] bytes (b L) (r.becomes L));
   all = all r.all;
+  place = r.place;
 }
   where
     left : length (drop i piece) ≡ length piece - i

@@ -110,3 +110,11 @@ pub whole_at : (section : ℕ) (v w : At) (seen piece : List ℕ) (taken : ℕ) 
     → SaysBody section v piece (steps.Whole taken) w
 whole_at section v w seen piece taken lines e t f =
     (t.0, (lines, f), λ L l. subst (λ (z : At). Moves L z (take taken piece) [] w) (sym e) (subst (λ (z : At). Moves L (in_trailers seen) (take taken piece) [] z) (sym f) (t.1 L l)))
+
+pub need_at : (section : ℕ) (v w : At) (seen piece : List ℕ) (lines : List Field) → v ≡ in_trailers seen → SaysTrailers section seen piece trailer.Need lines → w ≡ in_trailers (seen ++ piece)
+    → SaysBody section v piece steps.Need w
+need_at section v w seen piece lines e t f L l =
+    let more = t L l in (
+      subst (λ (z : At). Moves L z piece [] w) (sym e) (subst (λ (z : At). Moves L (in_trailers seen) piece [] z) (sym f) more.0),
+      inr (subst (λ (z : At). OfRest L nothing_behind z piece why.Ended) (sym e) more.1),
+    )

@@ -1,15 +1,23 @@
 -- A reader is sound between calls.
-use Rattle.std.proofs.Common.{◌≡◌, ◌<◌, arith, Bool, true, false, ℕ, List, None, refl, sym, ap, ◌∙◌, [], inl, inr}
+use Rattle.std.proofs.Common.{◌≡◌, ◌<◌, ◌+◌, arith, Bool, true, false, ℕ, List, length, subst, None, refl, sym, ap, ◌∙◌, [], inl, inr}
 use Rattle.std.proofs.lemmas.Bool.{eqb-false}
 use Rattle.bh_spec.specs.Messages.{Field}
 use Rattle.bh_model.specs.Lines.{FieldsView}
-use Rattle.h1_spec.specs.BodyStates.{At, over, is_whole, trailers_of}
+use Rattle.h1_spec.specs.BodyStates.{At, in_trailers, over, is_whole, may_end, trailers_of}
+use Rattle.h1_spec.specs.Heads.{HoldsNoEnd}
+use Rattle.h1_spec.proofs.TrailerEnds.{trailers_unended}
+use Rattle.h1_spec.proofs.LineSteps.{line_unended}
+use Rattle.h1_spec.proofs.ChunkSteps.{chunk_unended, count_unended, cr_missing, lf_missing}
 use Rattle.h1_head.specs.Ends.{ReaderView}
 use Rattle.h1_body.specs.declared.content.Phase.{Phase}
 use Rattle.h1_body.specs.declared.content.Phase.TheVariants as phases
 use Rattle.h1_body.specs.declared.reader.BodyStep.{BodyStep}
 use Rattle.h1_body.specs.declared.reader.BodyStep.TheVariants as steps
-use Rattle.h1_body.specs.Readers.{place_of, IsOpenReader, IsUnfinished, SaysBody, KnownBody, IsSound, is_refused}
+use Rattle.h1_body.specs.Readers.{place_of, IsOpenReader, IsUnfinished, SaysBody, KnownBody, IsSound, is_refused, AwaitsMoreWithin}
+use Rattle.h1_body.specs.Lines.{state_of}
+use Rattle.h1_body.specs.Contents.{IsValid}
+use Rattle.h1_body.specs.Trailers.{IsReady}
+use Rattle.h1_body.proofs.Phases.{few_of, open_of}
 
 open_sound : (phase : Phase) (ended : Bool) (section : ℕ) (seen : List ℕ) (head : ReaderView) (spans : ℕ) (fields : FieldsView)
     → IsOpenReader phase ended section seen head spans fields → IsSound false phase ended section seen head spans fields
@@ -86,3 +94,30 @@ pub sound_made : (refused : Bool) (phase : Phase) (ended : Bool) (section : ℕ)
 sound_made true phase ended section seen head spans fields r h = absurd cc
 sound_made false phase true section seen head spans fields r h = h.1
 sound_made false phase false section seen head spans fields r h = h.ready.idle
+
+-- ---- the end
+
+trailers_await : (section : ℕ) (seen : List ℕ) (head : ReaderView) (spans : ℕ) (fields : FieldsView) → IsReady section seen head spans fields → AwaitsMoreWithin section (in_trailers seen)
+trailers_await section seen head spans fields r L l =
+    trailers_unended L section seen l (subst HoldsNoEnd r.seen_is r.none) (omega (arith, r.more, r.limit, ap (length {A = ℕ}) r.seen_is))
+
+-- where the bytes may not end, they are too few
+pub sound_awaits : (refused : Bool) (phase : Phase) (ended : Bool) (section : ℕ) (seen : List ℕ) (head : ReaderView) (spans : ℕ) (fields : FieldsView)
+    → refused ≡ false → may_end (place_of phase ended seen fields.lines) ≡ false → IsSound refused phase ended section seen head spans fields
+    → AwaitsMoreWithin section (place_of phase ended seen fields.lines)
+sound_awaits true phase ended section seen head spans fields r never h = absurd cc
+sound_awaits false phase true section seen head spans fields r never h =
+    let may : may_end (place_of phase true seen fields.lines) ≡ true = ap (λ (p : Phase). may_end (place_of p true seen fields.lines)) h.0 in absurd cc
+sound_awaits false phase false section seen head spans fields r never h = by_phase phase h.valid never
+  where
+    by_phase : (p : Phase) → IsValid p → may_end (place_of p false seen fields.lines) ≡ false → AwaitsMoreWithin section (place_of p false seen fields.lines)
+    by_phase (phases.Count missing) v never L l = count_unended L missing (some missing (eqb-false missing 0 never))
+      where
+        some : (n : ℕ) → (n ≡ 0 → ⊥) → 0 < n
+        some n other = omega (arith, other)
+    by_phase phases.ToEnd v never L l = absurd cc
+    by_phase (phases.Line line room) v never L l = line_unended L (state_of line) room (few_of line v.0) (open_of line v.1)
+    by_phase (phases.Chunk missing) v never L l = chunk_unended L missing v
+    by_phase phases.ChunkEnd v never L l = cr_missing L
+    by_phase phases.ChunkLf v never L l = lf_missing L
+    by_phase phases.Trailers v never L l = trailers_await section seen head spans fields h.ready L l

@@ -36,7 +36,7 @@ run_more L s v w bytes content run at taken m h =
 
 -- ---- bodies that are over
 
-rest_done : (L : Bounds) (v : At) → is_whole v ≡ true → Rest L v [] (trailers_of v) []
+pub rest_done : (L : Bounds) (v : At) → is_whole v ≡ true → Rest L v [] (trailers_of v) []
 rest_done L (in_count n) e = let none = eqb-true n 0 e in (sym none, refl, refl)
 rest_done L to_end e = absurd cc
 rest_done L (in_line state room) e = absurd cc
@@ -58,7 +58,7 @@ none_follows L (in_trailers seen) content trailers e r = absurd cc
 none_follows L (over found) content trailers e r = let none = r.2 in absurd cc
 
 -- so a body that lasts to the end isn't whole before it
-never_whole : (L : Bounds) (x content : List ℕ) (v : At) → Moves L to_end x content v → is_whole v ≡ true → ⊥
+pub never_whole : (L : Bounds) (x content : List ℕ) (v : At) → Moves L to_end x content v → is_whole v ≡ true → ⊥
 never_whole L x content v m e =
     let f = m.rest.forth (x ++ 0 ∷ [], []) (0 ∷ []) (refl, refl) in
     none_follows L v f.0.0 f.0.1 e f.2

@@ -115,6 +115,17 @@ NoneMissing behind_cr = Unit {0}
 NoneMissing (in_trailers seen) = Unit {0}
 NoneMissing (over found) = Unit {0}
 
+-- behind content stands more of it, or the line end of a chunk
+abbrev pub IsBehindContent : At → Type 0
+IsBehindContent (in_count missing) = Unit {0}
+IsBehindContent to_end = Unit {0}
+IsBehindContent (in_line state room) = ⊥
+IsBehindContent (in_chunk missing) = Unit {0}
+IsBehindContent behind_chunk = Unit {0}
+IsBehindContent behind_cr = ⊥
+IsBehindContent (in_trailers seen) = ⊥
+IsBehindContent (over found) = ⊥
+
 -- the first bytes of the piece end with these bytes of content, which are as many as there are
 pub record IsContent (v : At) (piece : List ℕ) (taken : ℕ) (bytes : List ℕ) (w : At) : Type 0 where
   pub inside : taken ≤ length piece
@@ -122,6 +133,7 @@ pub record IsContent (v : At) (piece : List ℕ) (taken : ℕ) (bytes : List ℕ
   pub ends : (front : List ℕ) × (take taken piece ≡ front ++ bytes)
   pub becomes : Becomes v (take taken piece) bytes w
   pub all : (taken ≡ length piece) ⊎ NoneMissing w
+  pub place : IsBehindContent w
 
 -- a byte of the piece is the first that decides: the bytes before it have no content, they are too few, and nothing else is wrong with
 -- them; and with it the cause is this one, whatever follows
@@ -152,3 +164,4 @@ pub record IsRun (v : At) (rest bytes : List ℕ) (w : At) : Type 0 where
   pub front : (behind : List ℕ) × (rest ≡ bytes ++ behind)
   pub becomes : Becomes v bytes bytes w
   pub all : (length bytes ≡ length rest) ⊎ NoneMissing w
+  pub place : IsBehindContent w

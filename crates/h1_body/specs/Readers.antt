@@ -57,6 +57,10 @@ KnownBody (steps.Content taken bytes) phase ended section seen head spans fields
 KnownBody (steps.Whole taken) phase ended section seen head spans fields = fields.making ≡ None
 KnownBody (steps.Refused cause) phase ended section seen head spans fields = Unit {0}
 
+-- within limits with this bound of the trailer section the bytes are too few there
+abbrev pub AwaitsMoreWithin : ℕ → At → Type 0
+AwaitsMoreWithin section v = (L : Bounds) → L.section ≡ Some section → OfRest L nothing_behind v [] why.Ended
+
 -- What contracts see of a reader: the bytes that a trailer section may have, where the reader stands, and whether it refused the body.
 pub record BodyView : Type 0 where
   pub section : ℕ

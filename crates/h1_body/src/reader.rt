@@ -1,9 +1,9 @@
 //! A body, in pieces of any length.
-ghost use Rattle.std.specs.Prelude.{◌≡◌, IfOk, Some, None, true, false};
+ghost use Rattle.std.specs.Prelude.{◌≡◌, IfOk, IsFalse, Some, None, true, false};
 ghost use Rattle.h1_spec.specs.BodyStates.{start, is_whole, may_end, trailers_of};
-ghost use Rattle.h1_body.specs.Readers.{SaysBody, is_refused};
+ghost use Rattle.h1_body.specs.Readers.{SaysBody, is_refused, AwaitsMoreWithin};
 
-use crate::reading::Reading;
+use crate::reading::{Reading, first_phase};
 use bh_base::NoMemory;
 use bh_model::{Fields, H1Why, Limits};
 use h1_spec::Framing1;
@@ -77,9 +77,21 @@ impl BodyReader {
         self.reading.is_whole()
     }
 
-    /// May the bytes end here? Where the body is whole, or lasts to the end.
+    /// Chooses the framing, where nothing was read yet. It takes no memory.
+    pub fn begin(&mut self, framing: Framing1)
+        requires open { self.old.refused ≡ false }
+        requires fresh { self.old.at ≡ start Framing1.Chunked }
+        ensures start { self.new.at ≡ start framing }
+        ensures section { self.new.section ≡ self.old.section }
+        ensures open { self.new.refused ≡ false }
+    {
+        self.reading.content.phase = first_phase(framing);
+    }
+
+    /// May the bytes end here? Where the body is whole, or lasts to the end; else they are too few.
     pub fn may_end(&self) -> bool
-        ensures { result ≡ may_end self.now.at }
+        ensures may { result ≡ may_end self.now.at }
+        ensures awaits { IsFalse result → self.now.refused ≡ false → AwaitsMoreWithin self.now.section self.now.at }
     {
         self.reading.may_end()
     }

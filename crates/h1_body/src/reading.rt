@@ -99,7 +99,7 @@ impl Reading {
 }
 
 /// Where a body with this framing begins.
-fn first_phase(framing: Framing1) -> Phase
+pub fn first_phase(framing: Framing1) -> Phase
     ensures start { at_of result ≡ start framing }
     ensures valid { IsValid result }
     ensures content { result ≡ Phase.Trailers → ⊥ }

@@ -6,3 +6,4 @@ pub mod Cookies
 pub mod Adding
 pub mod FramingLemmas
 pub mod Rules
+pub mod Named

@@ -1,13 +1,16 @@
 -- The first rule that holds, rule by rule, and the rules of a section, line by line.
-use Rattle.std.proofs.Common.{◌≡◌, ◌↔◌, ◌+◌, ℕ, Bool, true, false, not, ◌||◌, ◌&&◌, nat_eq, IsTrue, Option, Some, None, option_map, List, [], ◌∷◌, drop, slice_get, length, ap, sym, ◌∙◌, refl, arith}
+use Rattle.std.proofs.Common.{◌≡◌, ◌↔◌, ◌+◌, ℕ, Bool, true, false, not, ◌||◌, ◌&&◌, nat_eq, IsTrue, Option, Some, None, option_map, List, [], ◌∷◌, ◌++◌, codes, bytes_eq, drop, slice_get, length, ap, sym, ◌∙◌, refl, arith}
 use Rattle.std.specs.List.{All, list_any, list_all, find}
 use Rattle.std.proofs.lemmas.Bool.{cond-true, cond-false, eqb-true}
 use Rattle.std.proofs.lemmas.List.Sums.{AllPass-from_list_all, list_all-from_AllPass}
 use Rattle.bh_spec.specs.Bytes.{is_authority, is_text_value}
-use Rattle.bh_spec.specs.Messages.{Field}
+use Rattle.bh_spec.specs.Messages.{Field, Start, request, response}
 use Rattle.bh_spec.specs.declared.NoForm.{NoForm}
-use Rattle.h1_spec.specs.Http1Text.{Case, is_host, has_bad_value}
-use Rattle.h1_spec.specs.Moments.{first_of}
+use Rattle.bh_spec.specs.declared.NoForm.TheVariants as no
+use Rattle.h1_spec.specs.Cleaning.{values_of}
+use Rattle.h1_spec.specs.Framing.{lengths}
+use Rattle.h1_spec.specs.Http1Text.{Case, is_host, is_length, is_web, of_fields, of_head, has_bad_value}
+use Rattle.h1_spec.specs.Moments.{first_of, alone}
 use Rattle.h1_rules.proofs.HopLemmas.{same_answer}
 use Rattle.h1_rules.proofs.Values.{drop_line}
 
@@ -48,3 +51,26 @@ host_alone [] value b e h =
 host_alone (byte ∷ rest) value b e h =
     let none = eqb-true (length (byte ∷ rest)) 0 e in
     absurd (omega arith)
+
+-- ---- what holds where no rule does
+
+rest_free : (form : NoForm) (holds : Bool) (more : List Case) → first_of ((form, holds) ∷ more) ≡ None → (holds ≡ false) × (first_of more ≡ None)
+rest_free form true more e = absurd cc
+rest_free form false more e = (refl, e)
+
+none_not : (b : Bool) → not b ≡ false → b ≡ true
+none_not true e = refl
+none_not false e = absurd (cc)
+
+last_free : (front : List Case) (form : NoForm) (holds : Bool) → first_of (front ++ (form, holds) ∷ []) ≡ None → holds ≡ false
+last_free [] form holds e = (rest_free form holds [] e).0
+last_free (one ∷ front) form holds e = last_free front form holds (rest_free one.0 one.1 (front ++ (form, holds) ∷ []) e).1
+
+-- the content length of a head that may be written
+pub length_free : (start : Start) (fields : List Field) → first_of (of_head (alone start) fields) ≡ None → IsTrue (is_length (lengths fields))
+length_free (request c) fields e =
+    none_not (is_length (lengths fields)) (last_free ((no.Connect, bytes_eq c.method (codes "CONNECT")) ∷ (no.Scheme, not (is_web c.scheme))
+    ∷ (of_fields (request c) fields ++ (no.Host, not (is_host c.authority (values_of (codes "host") fields))) ∷ []))
+    no.LengthField (not (is_length (lengths fields))) e)
+length_free (response interims status) fields e =
+    none_not (is_length (lengths fields)) (last_free (of_fields (response [] status) fields) no.LengthField (not (is_length (lengths fields))) e)

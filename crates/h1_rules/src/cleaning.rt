@@ -99,7 +99,8 @@ fn are_named(fields: &Fields) -> bool
 /// Adds the lines of a header section that stay, the first cookie with the values of all.
 fn add_own(fields: &Fields, hops: &Hops, drop_host: bool, cleaned: &mut Fields)
     requires named { All IsNamed fields.now.lines }
-    requires room { IsAdding cleaned.old cleaned.old (own_lines (dropped_names hops.now.names drop_host) (crumbs (values_of cookie_name fields.now.lines)) false fields.now.lines)
+    requires room { IsAdding cleaned.old cleaned.old
+        (own_lines (dropped_names hops.now.names drop_host) (crumbs (values_of cookie_name fields.now.lines)) false fields.now.lines)
         (own_lines (dropped_names hops.now.names drop_host) (crumbs (values_of cookie_name fields.now.lines)) false fields.now.lines) }
     ensures { IsAdding cleaned.old cleaned.new []
         (own_lines (dropped_names hops.now.names drop_host) (crumbs (values_of cookie_name fields.now.lines)) false fields.now.lines) }
@@ -136,13 +137,18 @@ fn push_own(fields: &Fields, name: &[u8], value: &[u8], to: &mut Fields)
     requires idle { to.old.making ≡ None }
     requires named { 0 < length name.now }
     requires lower_case { lower name.now ≡ name.now }
-    requires spare { length name.now + length (cond (is_cookie_name name.now) (crumbs (values_of cookie_name fields.now.lines)) value.now) + 2 ≤ to.old.spare }
+    requires spare { length name.now
+        + length (cond (is_cookie_name name.now) (crumbs (values_of cookie_name fields.now.lines)) value.now) + 2 ≤ to.old.spare }
     requires free { 1 ≤ to.old.free }
     ensures lines { to.new.lines ≡ to.old.lines
-        ++ record { name = name.now; value = cond (is_cookie_name name.now) (crumbs (values_of cookie_name fields.now.lines)) value.now } ∷ [] }
+        ++ record {
+          name = name.now;
+          value = cond (is_cookie_name name.now) (crumbs (values_of cookie_name fields.now.lines)) value.now;
+        } ∷ [] }
     ensures making { to.new.making ≡ None }
     ensures spare { to.new.spare
-        + (length name.now + length (cond (is_cookie_name name.now) (crumbs (values_of cookie_name fields.now.lines)) value.now) + 2) ≡ to.old.spare }
+        + (length name.now + length (cond (is_cookie_name name.now) (crumbs (values_of cookie_name fields.now.lines)) value.now) + 2)
+        ≡ to.old.spare }
     ensures free { to.new.free + 1 ≡ to.old.free }
 {
     if is_cookie(name) {
@@ -172,7 +178,8 @@ fn push_cookies(fields: &Fields, to: &mut Fields)
     requires idle { to.old.making ≡ None }
     requires spare { length cookie_name + length (crumbs (values_of cookie_name fields.now.lines)) + 2 ≤ to.old.spare }
     requires free { 1 ≤ to.old.free }
-    ensures lines { to.new.lines ≡ to.old.lines ++ record { name = cookie_name; value = crumbs (values_of cookie_name fields.now.lines) } ∷ [] }
+    ensures lines { to.new.lines ≡ to.old.lines
+        ++ record { name = cookie_name; value = crumbs (values_of cookie_name fields.now.lines) } ∷ [] }
     ensures making { to.new.making ≡ None }
     ensures spare { to.new.spare + (length cookie_name + length (crumbs (values_of cookie_name fields.now.lines)) + 2) ≡ to.old.spare }
     ensures free { to.new.free + 1 ≡ to.old.free }

@@ -11,6 +11,7 @@ use Rattle.h1_spec.specs.Bodies.{IsChunked}
 use Rattle.h1_spec.specs.BodyCauses.{OfBody}
 use Rattle.h1_spec.specs.BodyStates.{start, in_count, to_end, in_chunk, behind_chunk, behind_cr, OfExpected, OfRestOfChunk, OfRest, nothing_behind, Moves}
 use Rattle.h1_spec.proofs.BodySteps.{moves_by}
+use Rattle.h1_spec.proofs.BodyMarks.{chunk_marks, over_marks, count_marks, end_marks, cr_marks, lf_marks}
 use Rattle.h1_spec.proofs.BodyStarts.{chunked_to, chunked_from, chunks_from}
 
 -- ---- content
@@ -43,6 +44,7 @@ chunk_run L x m = moves_by L (in_chunk (length x + m)) x x (in_chunk m) (record 
         (x ++ r.0, p.1, refl, p.3, ap (λ (c : List ℕ). x ++ c) (p.4 ∙ ap (λ (c : List ℕ). c ++ p.1) p.2) ∙ sym (append_assoc x r.0 p.1)),
       );
   causes = causes;
+  marks = chunk_marks x m;
 })
   where
     causes : (more : List ℕ) (cause : H1Why) → OfRestOfChunk L nothing_behind m more cause → OfRestOfChunk L nothing_behind (length x + m) (x ++ more) cause
@@ -74,6 +76,7 @@ chunk_over L = moves_by L (in_chunk 0) [] [] behind_chunk (record {
       );
   back = λ later trailers more r. ([], later, refl, refl, ([], more, refl, r, refl));
   causes = causes;
+  marks = over_marks;
 })
   where
     causes : (more : List ℕ) (cause : H1Why) → OfRest L nothing_behind behind_chunk more cause → OfRestOfChunk L nothing_behind 0 more cause
@@ -85,6 +88,7 @@ count_run L x m = moves_by L (in_count (length x + m)) x x (in_count m) (record 
   forth = λ found trailers more r. (more, sym r.2, (omega (arith, r.0, ap (length {A = ℕ}) r.2, length-append x more), r.1, refl));
   back = λ later trailers more r. (length-append x later ∙ ap (λ (n : ℕ). length x + n) r.0, r.1, ap (λ (z : List ℕ). x ++ z) r.2);
   causes = causes;
+  marks = count_marks x m;
 })
   where
     causes : (more : List ℕ) (cause : H1Why) → OfBody L (Counted m) nothing_behind more cause → OfBody L (Counted (length x + m)) nothing_behind (x ++ more) cause
@@ -96,6 +100,7 @@ end_run L x = moves_by L to_end x x to_end (record {
   forth = λ found trailers more r. (more, sym r.1, (r.0, refl));
   back = λ later trailers more r. (r.0, ap (λ (z : List ℕ). x ++ z) r.1);
   causes = λ more cause h. h;
+  marks = end_marks x;
 })
 
 -- ---- the line end
@@ -107,6 +112,7 @@ end_cr L = moves_by L behind_chunk (13 ∷ []) [] behind_cr (record {
       (found, refl, (10 ∷ [], r.1, refl, r.3, cc));
   back = λ later trailers more r. (crlf, r.1, refl, r.3, ap (λ (z : List ℕ). 13 ∷ z) (r.4 ∙ ap (λ (z : List ℕ). z ++ r.1) r.2));
   causes = causes;
+  marks = cr_marks;
 })
   where
     causes : (more : List ℕ) (cause : H1Why) → OfRest L nothing_behind behind_cr more cause → OfRest L nothing_behind behind_chunk (13 ∷ more) cause
@@ -122,6 +128,7 @@ end_lf L = moves_by L behind_cr (10 ∷ []) [] (start Chunked) (record {
       (found, refl, chunked_to L found trailers more (subst (IsChunked L found trailers) (sym same) r.3));
   back = λ later trailers more r. (10 ∷ [], more, refl, chunked_from L later trailers more r, refl);
   causes = λ more cause h. inr (10 ∷ [], more, refl, chunks_from L more cause h, refl);
+  marks = lf_marks;
 })
 
 -- ---- what is wrong

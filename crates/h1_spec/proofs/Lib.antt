@@ -26,6 +26,7 @@ pub mod Valid
 pub mod LaterBytes
 pub mod SomeAnswer
 pub mod SomeInto
+pub mod BodyMarks
 pub mod BodySteps
 pub mod LineSteps
 pub mod ChunkSteps
@@ -37,3 +38,4 @@ pub mod Translated
 pub mod Worked
 pub mod BodyFronts
 pub mod Marking
+pub mod MarkedBodies

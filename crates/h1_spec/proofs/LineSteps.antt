@@ -11,8 +11,9 @@ use Rattle.h1_spec.specs.Causes.{◌when◌else◌}
 use Rattle.h1_spec.specs.BodyCauses.{CanBegin}
 use Rattle.h1_spec.specs.ChunkStates.{InLine, in_digits, in_blanks, in_extension, behind_cr as line_cr, line_ended, next_state, Completes}
 use Rattle.h1_spec.proofs.ChunkLines.{IsFew, HasRoom, CompletesBehind, step_on, step_back, some_rest, some_state, same_next, ends_alone}
-use Rattle.h1_spec.specs.BodyStates.{At, in_line, in_chunk, in_trailers, Rest, RestOfLine, BehindLine, LineFrom, AnyLineFrom, GoesOn, IsDeadFrom, OfLine, OfBehindLine, OfRest, nothing_behind, Moves}
+use Rattle.h1_spec.specs.BodyStates.{At, in_line, in_chunk, in_trailers, Rest, RestOfLine, BehindLine, LineFrom, AnyLineFrom, GoesOn, IsDeadFrom, OfLine, OfBehindLine, OfRest, nothing_behind, AreMarked, Moves}
 use Rattle.h1_spec.proofs.BodySteps.{moves_by}
+use Rattle.h1_spec.proofs.BodyMarks.{line_marks, line_over_marks, chunk_begins_marks}
 
 -- ---- states
 
@@ -134,6 +135,7 @@ line_step L s b t room few e = moves_by L (in_line s (suc room)) (b ∷ []) [] (
   back = λ later trailers more r.
       (r.0, (b ∷ r.1.0, r.1.1, (omega (arith, r.1.2.0), state_back 15 r.0 s b t r.1.0 few e r.1.2.1), r.1.3, ap (λ (z : List ℕ). b ∷ z) r.1.4));
   causes = causes;
+  marks = line_marks s b t room e;
 })
   where
     forth : (found : List ℕ) (trailers : List Field) (more : List ℕ) (size : ℕ) (x y : List ℕ) → RestOfLine size s (suc room) x → BehindLine L size found trailers y → (b ∷ more) ≡ x ++ y
@@ -165,8 +167,13 @@ line_end L size room = moves_by L (in_line (line_ended size) room) [] [] (at_beh
   );
   back = λ later trailers more r. (size, ([], more, (omega arith, (refl, refl)), back size later trailers more r, refl));
   causes = λ more cause c. inr (size, ([], more, (omega arith, (refl, refl)), causes size more cause c, refl));
+  marks = marks size;
 })
   where
+    marks : (n : ℕ) → AreMarked (in_line (line_ended n) room) [] [] (at_behind_line n)
+    marks zero = line_over_marks room
+    marks (suc n) = chunk_begins_marks n room
+
     forth : (n : ℕ) (found : List ℕ) (trailers : List Field) (more : List ℕ) → BehindLine L n found trailers more → Rest L (at_behind_line n) found trailers more
     forth zero found trailers more (inl h) = (h.1, h.2)
     forth zero found trailers more (inr h) = absurd (omega (arith, h.0))

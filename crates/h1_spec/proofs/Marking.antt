@@ -32,7 +32,7 @@ chunks_count (chunk ∷ rest) t h =
     ap content_in h.4
     ∙ omega (arith, content-append h.0 h.1, chunk_count chunk h.0 h.2, chunks_count rest h.1 h.3, length-append chunk (concat rest))
 
-body_count : (L : Bounds) (f : Framing1) (content : List ℕ) (trailers : List Field) (bytes : List ℕ) (t : Text) → IsBody L f content trailers bytes → IsMarkedBody f content t → content_in t ≡ length content
+pub body_count : (L : Bounds) (f : Framing1) (content : List ℕ) (trailers : List Field) (bytes : List ℕ) (t : Text) → IsBody L f content trailers bytes → IsMarkedBody f content t → content_in t ≡ length content
 body_count L Empty content trailers bytes t b h = ap content_in h ∙ ap length (sym b.0)
 body_count L (Counted n) content trailers bytes t b h = ap content_in h ∙ content_all content
 body_count L ToEnd content trailers bytes t b h = ap content_in h ∙ content_all content

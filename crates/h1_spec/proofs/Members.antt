@@ -117,7 +117,7 @@ behind L m o z s fs R front more bytes h e t =
 
 -- ---- interim responses
 
-interim_agrees : (L : Bounds) (form : Form) (a b : Interim) → IsInterim a → IsInterim b → Agree ⊥ ((a.status ≡ b.status) × (a.fields ≡ b.fields)) (IsInterimText L form a) (IsInterimText L form b)
+pub interim_agrees : (L : Bounds) (form : Form) (a b : Interim) → IsInterim a → IsInterim b → Agree ⊥ ((a.status ≡ b.status) × (a.fields ≡ b.fields)) (IsInterimText L form a) (IsInterimText L form b)
 interim_agrees L form a b p q =
     agree_then ⊥ (a.status ≡ b.status) ((a.status ≡ b.status) × (a.fields ≡ b.fields)) (IsNumber parts.Status a.status) (IsSection L form a.fields) (IsNumber parts.Status b.status) (IsSection L form b.fields)
     (number_meets parts.Status a.status b.status)

@@ -166,7 +166,7 @@ before_it L to_head bytes k i t inside none h e =
     (within_less L.interims (length h.before) (length (h.before ++ i ∷ [])) (omega (arith, length-append h.before (i ∷ []))) h.few) s.2 c.2 cut.1
 
 -- it is one of the message's
-its_place : (L : Bounds) (m : Message) (o : Omitted) (z : ℕ) (start : Start) (bytes front more : List ℕ) (i : Interim) (t : Text) → IsStart start → (w : Own L m o z bytes)
+pub its_place : (L : Bounds) (m : Message) (o : Omitted) (z : ℕ) (start : Start) (bytes front more : List ℕ) (i : Interim) (t : Text) → IsStart start → (w : Own L m o z bytes)
     → IsNumber parts.Framing (framing (kind_of start) w.form) w.number → IsStartText L w.form start w.begun
     → bytes ≡ front ++ more → (h : IsInterims L i t) → bytes_of t ≡ front → (after : List Interim) × (interims_of start ≡ (h.before ++ i ∷ []) ++ after)
 its_place L m o z start bytes front more i t p w n b e h f =

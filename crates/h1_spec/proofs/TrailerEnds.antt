@@ -12,6 +12,7 @@ use Rattle.h1_spec.specs.BodyCauses.{EndsAtOnce, TrailerEndsAt, OfTrailers}
 use Rattle.h1_spec.proofs.HeadTexts.{section_front}
 use Rattle.h1_spec.specs.Heads.{HoldsNoEnd}
 use Rattle.h1_spec.specs.BodyStates.{in_trailers, over, OfRest, nothing_behind, Moves}
+use Rattle.h1_spec.proofs.BodyMarks.{trailers_marks, section_marks}
 use Rattle.h1_spec.proofs.BodySteps.{moves_by}
 
 -- ---- the same end
@@ -108,6 +109,7 @@ trailers_on L seen x = moves_by L (in_trailers seen) x [] (in_trailers (seen ++ 
   forth = λ found trailers more r. (found, refl, (r.0, (subst (λ (z : List ℕ). IsWithin L.section (length z)) (sym (append_assoc seen x more)) r.1.0, subst (IsSection trailers) (sym (append_assoc seen x more)) r.1.1)));
   back = λ later trailers more r. (r.0, (subst (λ (z : List ℕ). IsWithin L.section (length z)) (append_assoc seen x more) r.1.0, subst (IsSection trailers) (append_assoc seen x more) r.1.1));
   causes = λ more cause h. subst (λ (z : List ℕ). OfTrailers L nothing_behind z cause) (append_assoc seen x more) h;
+  marks = trailers_marks seen x (seen ++ x);
 })
 
 same_most : (L : Bounds) (a b : ℕ) → L.section ≡ Some a → L.section ≡ Some b → a ≡ b
@@ -172,4 +174,5 @@ trailers_over L most seen x fields e fits section = moves_by L (in_trailers seen
         ),
       );
   causes = λ more cause h. absurd h;
+  marks = section_marks seen x fields;
 })

@@ -28,10 +28,10 @@ use Rattle.h1_spec.proofs.Unjudged.{Unjudged, unjudged, moment_free, opening_fre
 
 -- ---- the n-th byte of content
 
-abbrev weight : Part → ℕ
+abbrev pub weight : Part → ℕ
 weight part = if nat_eq (number_of part) 18 then 1 else 0
 
-content_or_not : (part : Part) → (part ≡ parts.Content) ⊎ (weight part ≡ 0)
+pub content_or_not : (part : Part) → (part ≡ parts.Content) ⊎ (weight part ≡ 0)
 content_or_not parts.Framing = inr refl
 content_or_not parts.MethodLength = inr refl
 content_or_not parts.Method = inr refl

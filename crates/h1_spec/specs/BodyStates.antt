@@ -1,17 +1,18 @@
 -- A reader of a body in the middle of it: where it stands, what completes the body from there, and what is wrong with bytes from there.
-use Rattle.std.specs.Prelude.{ℕ, ◌≡◌, ◌<◌, ◌≤◌, ◌+◌, ◌⊎◌, Bool, true, false, nat_eq, List, [], ◌∷◌, ◌++◌, length, take, Some}
+use Rattle.std.specs.Prelude.{ℕ, zero, suc, ◌≡◌, ◌<◌, ◌≤◌, ◌+◌, ◌⊎◌, Bool, true, false, cond, nat_eq, List, [], ◌∷◌, ◌++◌, length, take, Option, Some, None}
+use Rattle.bh_spec.specs.declared.Part.TheVariants as parts
 use Rattle.bh_spec.specs.Bounds.{Bounds}
 use Rattle.bh_spec.specs.Messages.{Field}
 use Rattle.h1_spec.specs.declared.Framing1.{Framing1}
 use Rattle.h1_spec.specs.declared.Framing1.TheVariants.{Empty, Counted, Chunked, ToEnd}
 use Rattle.bh_spec.specs.declared.H1Why.{H1Why}
 use Rattle.bh_spec.specs.declared.H1Why.TheVariants as why
-use Rattle.bh_spec.specs.Texts.{◌then◌}
+use Rattle.bh_spec.specs.Texts.{Text, bytes_of, content_in, ◌then◌}
 use Rattle.h1_spec.specs.Grammar.{Is, crlf}
 use Rattle.h1_spec.specs.Bodies.{IsTrailerSection, IsChunked, IsBody}
 use Rattle.h1_spec.specs.Causes.{Causes, ◌when◌else◌}
 use Rattle.h1_spec.specs.BodyCauses.{CanBegin, OfChunk, OfTrailers, OfBody, Behind}
-use Rattle.h1_spec.specs.ChunkStates.{InLine, in_digits, Completes}
+use Rattle.h1_spec.specs.ChunkStates.{InLine, in_digits, in_blanks, in_extension, behind_cr as cr_in_line, line_ended, next_state, Completes}
 use Rattle.h1_spec.specs.Residuals.{IsResidual}
 
 -- Where a reader stands. A body that is counted out, and one that is over, are whole.
@@ -167,13 +168,78 @@ OfRest L behind (over found) bytes cause = behind found bytes cause
 abbrev pub nothing_behind : Behind
 nothing_behind trailers rest cause = ⊥
 
+-- ---- which bytes are content
+
+abbrev pub is_more : ℕ → Bool
+is_more zero = false
+is_more (suc n) = true
+
+-- the next byte is one of content
+abbrev pub takes_in_line : InLine → Bool
+takes_in_line (in_digits count number) = false
+takes_in_line (in_blanks size) = false
+takes_in_line (in_extension size) = false
+takes_in_line (cr_in_line size) = false
+takes_in_line (line_ended size) = is_more size
+
+abbrev pub takes : At → Bool
+takes (in_count missing) = is_more missing
+takes to_end = true
+takes (in_line state room) = takes_in_line state
+takes (in_chunk missing) = is_more missing
+takes behind_chunk = false
+takes behind_cr = false
+takes (in_trailers seen) = false
+takes (over found) = false
+
+abbrev pub one_less : ℕ → ℕ
+one_less zero = zero
+one_less (suc n) = n
+
+-- Where a reader stands behind one byte more. Where no body goes on with it, anywhere behind content.
+abbrev pub in_line_behind : Option InLine → ℕ → At
+in_line_behind (Some state) room = in_line state room
+in_line_behind None room = over []
+
+abbrev pub line_step : InLine → ℕ → ℕ → At
+line_step (in_digits count number) room byte = in_line_behind (next_state 15 (in_digits count number) byte) (one_less room)
+line_step (in_blanks size) room byte = in_line_behind (next_state 15 (in_blanks size) byte) (one_less room)
+line_step (in_extension size) room byte = in_line_behind (next_state 15 (in_extension size) byte) (one_less room)
+line_step (cr_in_line size) room byte = in_line_behind (next_state 15 (cr_in_line size) byte) (one_less room)
+line_step (line_ended zero) room byte = over []
+line_step (line_ended (suc size)) room byte = in_chunk size
+
+abbrev pub step : At → ℕ → At
+step (in_count missing) byte = in_count (one_less missing)
+step to_end byte = to_end
+step (in_line state room) byte = line_step state room byte
+step (in_chunk zero) byte = behind_cr
+step (in_chunk (suc missing)) byte = in_chunk missing
+step behind_chunk byte = behind_cr
+step behind_cr byte = start Chunked
+step (in_trailers seen) byte = over []
+step (over found) byte = over []
+
+-- the bytes from there with their marks
+abbrev pub marked : At → List ℕ → Text
+marked v [] = []
+marked v (byte ∷ rest) = (cond (takes v) parts.Content parts.Framing, byte) ∷ marked (step v byte) rest
+
+-- From v these bytes have this text, with as much content, whatever follows them from w.
+pub record AreMarked (v : At) (bytes content : List ℕ) (w : At) : Type 0 where
+  pub text : Text
+  pub same : bytes_of text ≡ bytes
+  pub count : content_in text ≡ length content
+  pub on : (more : List ℕ) → marked v (bytes ++ more) ≡ text ++ marked w more
+
 -- ---- steps
 
 -- The bytes, with this content, make w of v: what completes the body from v behind them is what completes it from w, and what is wrong
--- from w is wrong from v.
+-- from w is wrong from v; and so their marks.
 pub record Moves (L : Bounds) (v : At) (bytes content : List ℕ) (w : At) : Type 0 where
   pub rest : IsResidual (RestOf L v) bytes (behind_content content) (RestOf L w)
   pub causes : (more : List ℕ) (cause : H1Why) → OfRest L nothing_behind w more cause → OfRest L nothing_behind v (bytes ++ more) cause
+  pub marks : AreMarked v bytes content w
 
 -- From the start what completes a body is a body, and what is wrong is wrong with a body.
 pub record Starts (L : Bounds) (framing : Framing1) : Type 0 where

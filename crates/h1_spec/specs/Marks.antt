@@ -1,5 +1,5 @@
 -- HTTP/1.1 texts with marks: which of their bytes are content.
-use Rattle.std.specs.Prelude.{ℕ, ◌≡◌, Bool, List, [], ◌++◌, length}
+use Rattle.std.specs.Prelude.{ℕ, ◌≡◌, ◌<◌, Bool, List, [], ◌++◌, length, All}
 use Rattle.std.specs.List.{concat}
 use Rattle.bh_spec.specs.declared.Part.TheVariants as parts
 use Rattle.bh_spec.specs.Bounds.{Bounds}
@@ -25,10 +25,11 @@ as_framing bytes = mark parts.Framing bytes
 abbrev pub IsMarkedChunk : List ℕ → Text → Type 0
 IsMarkedChunk chunk t = (line : List ℕ) × IsChunkLine (length chunk) line × (t ≡ as_framing line ++ (as_content chunk ++ as_framing crlf))
 
--- the chunks, and all that stands behind them
+-- the chunks, none of them empty, and all that stands behind them
 pub record IsMarkedChunked (content : List ℕ) (t : Text) : Type 0 where
   pub chunks : List (List ℕ)
   pub joined : concat chunks ≡ content
+  pub some : All (λ chunk. 0 < length chunk) chunks
   pub text : Text
   pub marked : AreEach IsMarkedChunk chunks text
   pub behind : List ℕ

@@ -21,8 +21,8 @@ pub loop-value-preserved : goal.loop-value-preserved
 loop-value-preserved c =
     let lines = c.args.fields.now.lines in
     let put = crumb_put c.args.to.now c.loop-value.to c.put_crumb.new.to c.loop-value.some c.in-Some.value.now (values_of cookie (drop c.loop-value.from lines))
-        (values_of cookie (drop c.in-Some.next lines)) (crumbs (values_of cookie lines)) c.in-Some.ensures.found c.loop-value.invariant.joining
-        c.put_crumb.ensures.lines c.put_crumb.ensures.making c.put_crumb.ensures.spare c.put_crumb.ensures.free in
+    (values_of cookie (drop c.in-Some.next lines)) (crumbs (values_of cookie lines)) c.in-Some.ensures.found c.loop-value.invariant.joining
+    c.put_crumb.ensures.lines c.put_crumb.ensures.making c.put_crumb.ensures.spare c.put_crumb.ensures.free in
     record { inside = c.in-Some.ensures.within; joining = more_begun c.args.to.now c.put_crumb.new.to c.loop-value.some c.is_empty.result c.in-Some.value.now (crumbs (values_of cookie (drop c.in-Some.next lines))) (crumbs (values_of cookie lines)) c.is_empty.ensures put }
 
 pub returns : goal.returns

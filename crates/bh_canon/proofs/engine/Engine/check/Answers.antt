@@ -1,5 +1,4 @@
 use Rattle.std.proofs.Common.{rules, sym}
-use Rattle.bh_canon.specs.Calls.{SourceCheck}
 use Rattle.bh_canon.proofs.Lending.{no_write_fault, check_through}
 use Rattle.bh_canon.proofs.Sources.{reads_fit, source_told, source_completes, source_counts}
 use Rattle.bh_canon.proofs.engine.Engine.check.Goals as goal

@@ -6,14 +6,14 @@ use Rattle.bh_varint.specs.Step.{IsWhole, GoesOn}
 use Rattle.bh_spec.specs.declared.Judged.TheVariants as judged
 use Rattle.bh_fields.specs.declared.walk.Phase.{Phase}
 use Rattle.bh_fields.specs.declared.walk.Phase.TheVariants as phases
-use Rattle.bh_fields.specs.Sets.{names_set, free_room}
+use Rattle.bh_fields.specs.Sets.{names_set, free_room, Refuses}
 use Rattle.bh_fields.specs.Points.{Point, point_of, RestOf, NamedAt, part_of}
 use Rattle.bh_fields.specs.Stepping.{IsStep}
 use Rattle.bh_fields.specs.States.{NamedState}
 use Rattle.bh_fields.specs.Bytewise.{Steps}
 use Rattle.bh_spec.specs.declared.Part.TheVariants as parts
 use Rattle.bh_spec.proofs.Widths.{count_1}
-use Rattle.bh_fields.proofs.Moves.{line_more, line_step, line_whole, line_limit, line_dead}
+use Rattle.bh_fields.proofs.Moves.{line_more, line_step, line_whole, line_refused}
 use Rattle.bh_fields.proofs.Changes.{with_number, moved, part_is}
 use Rattle.bh_fields.proofs.walk.Walk.take_name_length.Goals as goal
 
@@ -24,20 +24,7 @@ returns-in-More c =
     c.name_set-within.ensures ∙ ap (λ (x : ℕ). names_set p.form x (Some (p.total - p.used))) (part_is p.limits c.part.result c.part.ensures.value) in
     subst (λ (phase : Phase). IsStep judged.More phases.NameLength p c.args.byte phase (with_number c.judge.new.number p)) (sym c.requires.phase)
     (line_more p c.args.byte c.judge.new.number c.requires.sized c.requires.state
-    (subst (λ (s : Allowed). GoesOn s (p.number ++ c.args.byte ∷ [])) set c.in-More.ensures.judges) c.in-More.ensures.kept)
-
-pub returns-in-Limit : goal.returns-in-Limit
-returns-in-Limit c =
-    let p : Point = point_of c.args.self.now in
-    let set : c.name_set-within.result ≡ names_set p.form (part_of p.limits) (Some (p.total - p.used)) =
-    c.name_set-within.ensures ∙ ap (λ (x : ℕ). names_set p.form x (Some (p.total - p.used))) (part_is p.limits c.part.result c.part.ensures.value) in
-    let free : c.name_set-free.result ≡ names_set p.form greatest (free_room p.form (p.total - p.used)) =
-    c.name_set-free.ensures ∙ ap (λ (x : Option ℕ). names_set p.form greatest x) c.room_without_limits.ensures in
-    let bytes : List ℕ = p.number ++ c.args.byte ∷ [] in
-    subst (λ (x : List ℕ). IsStep judged.Limit phases.NameLength p c.args.byte c.args.self.now.phase (with_number x p)) (sym c.in-Limit.ensures.kept)
-    (line_limit p c.args.byte c.args.self.now.phase c.requires.sized c.requires.state
-    (λ s. c.in-Limit.ensures.judges.0 (subst (λ (x : Allowed). SomeBegins x bytes) (sym set) s))
-    (subst (λ (x : Allowed). SomeBegins x bytes) free c.in-Limit.ensures.judges.1))
+    (subst (λ (s : Allowed). GoesOn s (p.number ++ c.args.byte ∷ [])) set c.in-More.ensures.shows) c.in-More.ensures.kept)
 
 pub returns-in-Dead : goal.returns-in-Dead
 returns-in-Dead c =
@@ -46,11 +33,10 @@ returns-in-Dead c =
     c.name_set-within.ensures ∙ ap (λ (x : ℕ). names_set p.form x (Some (p.total - p.used))) (part_is p.limits c.part.result c.part.ensures.value) in
     let free : c.name_set-free.result ≡ names_set p.form greatest (free_room p.form (p.total - p.used)) =
     c.name_set-free.ensures ∙ ap (λ (x : Option ℕ). names_set p.form greatest x) c.room_without_limits.ensures in
-    let bytes : List ℕ = p.number ++ c.args.byte ∷ [] in
-    subst (λ (x : List ℕ). IsStep judged.Dead phases.NameLength p c.args.byte c.args.self.now.phase (with_number x p)) (sym c.in-Dead.ensures.kept)
-    (line_dead p c.args.byte c.args.self.now.phase c.requires.sized c.requires.state
-    (λ s. c.in-Dead.ensures.judges.0 (subst (λ (x : Allowed). SomeBegins x bytes) (sym set) s))
-    (λ s. c.in-Dead.ensures.judges.1 (subst (λ (x : Allowed). SomeBegins x bytes) (sym free) s)))
+    subst (λ (x : List ℕ). Refuses (names_set p.form greatest (free_room p.form (p.total - p.used))) (x ++ c.args.byte ∷ []) c.refusal.result → IsStep c.refusal.result phases.NameLength p c.args.byte c.args.self.now.phase (with_number x p)) (sym c.in-Dead.ensures.kept)
+    (line_refused p c.args.byte c.args.self.now.phase c.refusal.result c.requires.sized c.requires.state
+    (λ s. c.in-Dead.ensures.shows (subst (λ (x : Allowed). SomeBegins x (p.number ++ c.args.byte ∷ [])) (sym set) s)))
+    (subst (λ (x : Allowed). Refuses x (c.judge.new.number ++ c.args.byte ∷ []) c.refusal.result) free c.refusal.ensures)
 
 pub begin_name-requires-clause-width : goal.begin_name-requires-clause-width
 begin_name-requires-clause-width c = omega (arith, c.bytes.ensures, count_1 c.in-Value.width)
@@ -63,7 +49,7 @@ begin_name-requires-clause-state c =
     subst (λ (w : ℕ). NamedState (with_number c.judge.new.number p) c.in-Value.value w) (sym c.bytes.ensures)
     (subst (λ (x : List ℕ). NamedState (with_number x p) c.in-Value.value (byte_count c.in-Value.width)) (sym c.in-Value.ensures.kept)
     (line_whole p c.args.byte c.in-Value.value c.in-Value.width c.requires.sized c.requires.state
-    (subst (λ (s : Allowed). IsWhole s (p.number ++ c.args.byte ∷ []) c.in-Value.value c.in-Value.width) set c.in-Value.ensures.judges)))
+    (subst (λ (s : Allowed). IsWhole s (p.number ++ c.args.byte ∷ []) c.in-Value.value c.in-Value.width) set c.in-Value.ensures.shows)))
 
 pub returns-in-Value : goal.returns-in-Value
 returns-in-Value c =
@@ -75,5 +61,5 @@ returns-in-Value c =
     (record { limits = refl; form = refl; place = refl })
     (subst (λ (w : ℕ). Steps (RestOf phases.NameLength p) (NamedAt q c.in-Value.value w) parts.NameLength c.args.byte) (sym c.bytes.ensures)
     (line_step p c.args.byte c.in-Value.value c.in-Value.width c.judge.new.number
-    (subst (λ (s : Allowed). IsWhole s (p.number ++ c.args.byte ∷ []) c.in-Value.value c.in-Value.width) set c.in-Value.ensures.judges)))
+    (subst (λ (s : Allowed). IsWhole s (p.number ++ c.args.byte ∷ []) c.in-Value.value c.in-Value.width) set c.in-Value.ensures.shows)))
     c.begin_name.ensures

@@ -13,4 +13,4 @@ returns-then-self g c = λ omitted padding.
 pub returns : goal.returns
 returns g c = λ omitted padding.
     subst (λ (s : Lister). SendsRest g.S.Sink.write_step true (owed s (ending omitted padding ∷ [])) c.args.sink.now c.finish.result c.finish.new.sink) c.self.view_is
-    (end_sent c.self.inside.writer c.self.inside.ended c.self.inside.none.lines omitted padding c.finish.result c.if-self.false c.self.invariant c.finish.ensures.wrote)
+    (end_sent c.self.inside.writer c.self.inside.ended c.self.inside.none.lines omitted padding c.finish.result c.if-self.false c.self.invariant.0 c.finish.ensures.wrote)

@@ -4,7 +4,7 @@ use Rattle.h1_body.specs.declared.trailers.TrailerStep.TheVariants as trailer
 use Rattle.h1_body.specs.declared.content.Phase.TheVariants as phases
 use Rattle.h1_spec.specs.BodyStates.{in_trailers}
 use Rattle.h1_body.specs.Trailers.{SaysTrailers}
-use Rattle.h1_body.proofs.ReaderSteps.{place_other, place_in, place_over, not_trailers, content_need, content_refused, behind_need, behind_refused, behind_whole, whole_at}
+use Rattle.h1_body.proofs.ReaderSteps.{place_other, place_in, place_over, not_trailers, content_need, content_refused, behind_need, behind_refused, behind_whole, whole_at, need_at}
 use Rattle.h1_body.proofs.reading.Reading.push.Goals as goal
 
 pub returns-in-Whole-clause-says : goal.returns-in-Whole-clause-says
@@ -77,3 +77,14 @@ returns-in-Refused-push-2-clause-says c =
     (subst (λ (z : List ℕ). SaysTrailers s.trailers.section seen z (trailer.Refused c.in-Refused-push-2.cause) t.fields.lines) c.behind.ensures c.in-Refused-push-2.ensures.says) in
     behind_refused s.trailers.section _ p q c.args.piece.now c.in-Trailers.taken c.in-Refused-push-2.cause
     (place_other p s.ended seen s.trailers.fields.lines n) c.in-Trailers.ensures.says trailing
+
+pub returns-in-Need-clause-says : goal.returns-in-Need-clause-says
+returns-in-Need-clause-says c =
+    let s = c.args.self.now in
+    let seen : List ℕ = drop 2 s.trailers.head.seen in
+    let t = c.push.new.self in
+    let phase : s.content.phase ≡ phases.Trailers = c.is_at_trailers.ensures.0 c.if-is_at_trailers.true in
+    let now : drop 2 t.head.seen ≡ seen ++ c.args.piece.now = ap (drop 2) c.in-Need.ensures.known.seen_is in
+    need_at s.trailers.section _ _ seen c.args.piece.now t.fields.lines
+    (place_in s.content.phase s.ended seen s.trailers.fields.lines phase c.requires.known.not_ended) c.in-Need.ensures.says
+    (place_in s.content.phase s.ended (drop 2 t.head.seen) t.fields.lines phase c.requires.known.not_ended ∙ ap in_trailers now)
