@@ -13,27 +13,14 @@ use Rattle.h1_spec.specs.Http1Text.{Case, of_head, of_fields, is_web, is_host, i
 use Rattle.h1_spec.specs.Moments.{announced, first_of}
 use Rattle.h1_rules.proofs.FramingLemmas.{tested}
 use Rattle.h1_rules.proofs.Digits.{few_digits}
+use Rattle.h1_rules.proofs.Rules.{length_free}
 use Rattle.h1_judge.specs.Courses.{start_of}
 use Rattle.h1_judge.specs.Judges.{IsCounting}
 
-free_last : (front : List Case) (form : NoForm) (b : Bool) → first_of (front ++ (form, b) ∷ []) ≡ None → b ≡ false
-free_last [] form false e = refl
-free_last [] form true e = absurd (cc)
-free_last ((f, false) ∷ front) form b e = free_last front form b e
-free_last ((f, true) ∷ front) form b e = absurd (cc)
-
-not_off : (b : Bool) → not b ≡ false → IsTrue b
-not_off true e = refl
-not_off false e = absurd (cc)
-
--- the length is judged last
-pub length_free : (of : Head) (fields : List Field) → first_of (of_head (start_of of) fields) ≡ None → IsTrue (is_length (lengths fields))
-length_free (of_request c) fields e =
-    let front : List Case = (no.Connect, bytes_eq c.method (codes "CONNECT")) ∷ (no.Scheme, not (is_web c.scheme))
-        ∷ (of_fields (request c) fields ++ (no.Host, not (is_host c.authority (values_of (codes "host") fields))) ∷ []) in
-    not_off (is_length (lengths fields)) (free_last front no.LengthField (not (is_length (lengths fields))) e)
-length_free (of_response status) fields e =
-    not_off (is_length (lengths fields)) (free_last (of_fields (response [] status) fields) no.LengthField (not (is_length (lengths fields))) e)
+-- the length of a head for which no rule holds
+pub length_of : (of : Head) (fields : List Field) → first_of (of_head (start_of of) fields) ≡ None → IsTrue (is_length (lengths fields))
+length_of (of_request c) fields e = length_free (request c) fields e
+length_of (of_response status) fields e = length_free (response [] status) fields e
 
 framed_counting : (values : List (List ℕ)) → IsTrue (is_length values) → IsCounting (framing_by values false) 0
 framed_counting [] h = tt

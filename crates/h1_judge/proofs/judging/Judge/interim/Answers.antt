@@ -1,5 +1,5 @@
 use Rattle.h1_judge.proofs.Rooms.{room_of}
-use Rattle.h1_judge.proofs.Naming.{headers_named}
+use Rattle.h1_rules.proofs.Named.{headers_named}
 use Rattle.h1_judge.proofs.judging.Judge.interim.Goals as goal
 
 pub clean_header-requires-clause-room : goal.clean_header-requires-clause-room

@@ -4,9 +4,9 @@ use Rattle.h1_judge.specs.Judges.{IsCleaned}
 use Rattle.bh_spec.specs.Items.{of_request, of_response}
 use Rattle.bh_model.specs.Values.{control_lent}
 use Rattle.h1_judge.proofs.Heads.{head_free, head_judged}
-use Rattle.h1_judge.proofs.Lengths.{length_free}
+use Rattle.h1_judge.proofs.Lengths.{length_of}
 use Rattle.h1_judge.proofs.Rooms.{room_of}
-use Rattle.h1_judge.proofs.Naming.{headers_named}
+use Rattle.h1_rules.proofs.Named.{headers_named}
 use Rattle.h1_judge.proofs.judging.Judge.request.Goals as goal
 
 pub clean_header-requires-clause-room : goal.clean_header-requires-clause-room

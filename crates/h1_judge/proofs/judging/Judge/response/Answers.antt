@@ -2,9 +2,9 @@ use Rattle.std.proofs.Common.{Some, None, sym, ◌∙◌, refl}
 use Rattle.bh_spec.specs.Items.{of_request, of_response}
 use Rattle.bh_model.specs.Values.{control_lent}
 use Rattle.h1_judge.proofs.Heads.{head_free, head_judged}
-use Rattle.h1_judge.proofs.Lengths.{length_free}
+use Rattle.h1_judge.proofs.Lengths.{length_of}
 use Rattle.h1_judge.proofs.Rooms.{room_of}
-use Rattle.h1_judge.proofs.Naming.{headers_named}
+use Rattle.h1_rules.proofs.Named.{headers_named}
 use Rattle.h1_judge.proofs.judging.Judge.response.Goals as goal
 
 pub clean_header-requires-clause-room : goal.clean_header-requires-clause-room
@@ -21,7 +21,7 @@ returns-in-Some c =
     head_judged j c.clean_header.new.self (of_response c.args.status) c.args.fields.now.lines c.in-Some.form c.clean_header.ensures (sym c.in-Some.is ∙ c.form_of_response.ensures c.args.status) c.requires.1.counting
 
 pub announce-requires : goal.announce-requires
-announce-requires c = length_free (of_response c.args.status) c.args.fields.now.lines (sym (c.form_of_response.ensures c.args.status) ∙ c.in_default.is)
+announce-requires c = length_of (of_response c.args.status) c.args.fields.now.lines (sym (c.form_of_response.ensures c.args.status) ∙ c.in_default.is)
 
 pub returns : goal.returns
 returns c =

@@ -1,5 +1,5 @@
 use Rattle.h1_judge.proofs.Rooms.{room_of}
-use Rattle.h1_judge.proofs.Naming.{trailers_named}
+use Rattle.h1_rules.proofs.Named.{trailers_named}
 use Rattle.h1_judge.proofs.judging.Judge.trailers.Goals as goal
 
 pub clean_trailers_into-requires-clause-named : goal.clean_trailers_into-requires-clause-named
