@@ -1,0 +1,88 @@
+-- How a translation to HTTP/1.1 ended, by the calls of its port.
+use Rattle.std.specs.Prelude.{◌≡◌, ◌⊎◌, ℕ, Bool, true, List, ◌++◌, length, None}
+use Rattle.bh_spec.specs.declared.NoForm.{NoForm}
+use Rattle.bh_spec.specs.declared.Omitted.{Omitted}
+use Rattle.bh_spec.specs.declared.Refusal.{Refusal}
+use Rattle.bh_spec.specs.declared.Refusal.TheVariants.{Dead, Limit, Ended, TooLong}
+use Rattle.bh_spec.specs.declared.Summary.{Summary}
+use Rattle.bh_spec.specs.Bounds.{Bounds}
+use Rattle.bh_spec.specs.Messages.{Message}
+use Rattle.bh_spec.specs.Reports.{summary}
+use Rattle.bh_base.specs.Steps.{Step, taken, given, met, IsQuiet, StopsAt, is_bad_read, is_bad_write}
+use Rattle.bh_stream.specs.Logs.{ReadsTo}
+use Rattle.bh_stream.specs.Messages.{GivesFronts}
+use Rattle.bh_stream.specs.Calls.{PortCall}
+use Rattle.bh_stream.specs.declared.streaming.End.{End}
+use Rattle.bh_stream.specs.declared.streaming.End.TheVariants as end
+use Rattle.h1_spec.specs.Cleaning.{clean_message}
+use Rattle.h1_spec.specs.Http1Text.{no_form, http1}
+use Rattle.h1_spec.specs.Judging.{IsJudgedAt}
+use Rattle.h1_spec.specs.Translation.{IntoAnswer, formed, dead, formless, IsIntoAnswer}
+use Rattle.h1_text.specs.Owed.{text_sent}
+use Rattle.h1_judge.specs.declared.judged.IntoWhy.{IntoWhy}
+use Rattle.h1_judge.specs.declared.judged.IntoWhy.TheVariants.{Binary, Form}
+
+-- What is written of a message: its text; and where its head says that there is no body, its content behind that. No message with an
+-- HTTP/1.1 form has such content.
+abbrev pub sent_text : Bool → Message → List ℕ
+sent_text to_head m = text_sent to_head (clean_message m)
+
+abbrev pub TheTextIsSent : Type 0
+TheTextIsSent = (to_head : Bool) (m : Message) → no_form to_head m ≡ None → sent_text to_head m ≡ http1 to_head m
+
+-- The bytes taken are a message that has a text, this is its summary, and its text was given.
+pub record IsTranslated (L : Bounds) (to_head : Bool) (s : Summary) (steps : List Step) : Type 0 where
+  pub end : met steps ≡ true
+  pub message : Message
+  pub omitted : Omitted
+  pub padding : ℕ
+  pub answer : IsIntoAnswer L to_head (taken steps) (formed message omitted padding)
+  pub summary_is : s ≡ summary message omitted padding (length (taken steps))
+  pub gave : given steps ≡ http1 to_head message
+
+-- A refused byte is the answer for the bytes taken, whatever follows them, and stops the call in the read that shows it. That the
+-- input ends too soon is the answer for the bytes taken, and the end was met.
+abbrev pub IsRefusedBinary : Bounds → Bool → Refusal → List Step → Type 0
+IsRefusedBinary L to_head (Dead at part) steps = ReadsTo at steps
+    × ((more : List ℕ) → IsIntoAnswer L to_head (taken steps ++ more) (dead (Dead at part)))
+IsRefusedBinary L to_head (Limit at part) steps = ReadsTo at steps
+    × ((more : List ℕ) → IsIntoAnswer L to_head (taken steps ++ more) (dead (Limit at part)))
+IsRefusedBinary L to_head (TooLong at) steps = ReadsTo at steps
+    × ((more : List ℕ) → IsIntoAnswer L to_head (taken steps ++ more) (dead (TooLong at)))
+IsRefusedBinary L to_head (Ended at part) steps = (met steps ≡ true) × IsIntoAnswer L to_head (taken steps) (dead (Ended at part))
+
+-- A byte is judged, whatever follows it, and stops the call in the read that shows it; or the end is.
+abbrev pub IsFormless : Bounds → Bool → NoForm → List Step → Type 0
+IsFormless L to_head form steps =
+    ((at : ℕ) × ReadsTo at steps × ((more : List ℕ) → IsJudgedAt L to_head (taken steps ++ more) at form))
+    ⊎ ((met steps ≡ true) × IsIntoAnswer L to_head (taken steps) (formless form))
+
+-- how a call ended; behind a failed call there is none
+abbrev pub IntoEnds : Bounds → Bool → End Summary IntoWhy → List Step → Type 0
+IntoEnds L to_head (end.Done s) steps = IsQuiet steps × IsTranslated L to_head s steps
+IntoEnds L to_head (end.Refused (Binary r)) steps = IsQuiet steps × IsRefusedBinary L to_head r steps
+IntoEnds L to_head (end.Refused (Form form)) steps = IsQuiet steps × IsFormless L to_head form steps
+IntoEnds L to_head end.ReadFault steps = StopsAt is_bad_read steps
+IntoEnds L to_head end.WriteFault steps = StopsAt is_bad_write steps
+
+-- A call that translates a message: at every point of its calls what was given begins what is written of every message that continues
+-- what was taken.
+pub record IntoCall (L : Bounds) (to_head : Bool) {S : Type 0} (read write : S → Step → S → Type 0) (s : S) (r : End Summary IntoWhy) (t : S)
+    : Type 0 where
+  pub steps : List Step
+  pub call : PortCall L.input (GivesFronts L (sent_text to_head)) (IntoEnds L to_head) read write steps s r t
+
+-- The end that is right for an input, and what was sent with it.
+abbrev pub IsRightInto : Bounds → Bool → End Summary IntoWhy → List ℕ → List ℕ → Type 0
+IsRightInto L to_head (end.Done s) input sent = (m : Message) × (omitted : Omitted) × (padding : ℕ)
+    × IsIntoAnswer L to_head input (formed m omitted padding) × (s ≡ summary m omitted padding (length input)) × (sent ≡ http1 to_head m)
+IsRightInto L to_head (end.Refused (Binary r)) input sent = IsIntoAnswer L to_head input (dead r)
+IsRightInto L to_head (end.Refused (Form form)) input sent = IsIntoAnswer L to_head input (formless form)
+IsRightInto L to_head end.ReadFault input sent = Unit {0}
+IsRightInto L to_head end.WriteFault input sent = Unit {0}
+
+-- the end that an answer for an input of so many bytes has
+abbrev pub into_end_of : IntoAnswer → ℕ → End Summary IntoWhy
+into_end_of (formed m omitted padding) bytes = end.Done (summary m omitted padding bytes)
+into_end_of (dead r) bytes = end.Refused (Binary r)
+into_end_of (formless form) bytes = end.Refused (Form form)
