@@ -82,6 +82,7 @@ too_far to_head f field n named bytes e = subst (λ (g : Framing1). IsCounting g
           judged = subst (λ (d : Course). item_form d (content_byte s.last) ≡ Some (no.LengthDiffers field (field + 1)))
               (sym (counted_within to_head field n named s.front))
               (first_on (no.LengthDiffers field (field + 1)) (nat_lt field ((n + length s.front) + 1)) (lt-ltb field ((n + length s.front) + 1) (omega (arith, full))));
+          far = λ long h. omega (arith, h, full, s.long);
         })
 
 pub none_may : (to_head : Bool) (f : Framing1) (n : ℕ) (named : List (List ℕ)) (bytes : List ℕ) → f ≡ Empty → IsShort f n (length bytes)
@@ -96,6 +97,7 @@ none_may to_head f n named bytes e = subst (λ (g : Framing1). IsShort g n (leng
           split = s.split ∙ ap (λ (l : List ℕ). l ++ s.last ∷ []) (no_front s.front (omega (arith, s.long, short)));
           free = tt;
           judged = refl;
+          far = λ long h. omega (arith, h, some);
         })
   where
     no_front : (l : List ℕ) → length l ≡ 0 → l ≡ []

@@ -1,6 +1,6 @@
 -- What one push of the decoder of the binary message leads to, when it is judged.
-use Rattle.std.proofs.Common.{◌≡◌, ◌<◌, ◌≤◌, ℕ, Bool, true, false, Option, Some, None, List, not, nat_eq, nat_lt, [], ◌∷◌, ◌++◌, length, take, drop, map, ◌⊎◌, inl, refl, sym, ◌∙◌, ap, subst, arith, append-nil}
-use Rattle.std.proofs.lemmas.List.{map-append, take-append-drop}
+use Rattle.std.proofs.Common.{◌≡◌, ◌<◌, ◌≤◌, ℕ, Bool, true, false, Option, Some, None, List, not, nat_eq, nat_lt, [], ◌∷◌, ◌++◌, length, take, drop, map, ◌⊎◌, inl, refl, sym, ◌∙◌, ap, subst, arith, append-nil, length-append}
+use Rattle.std.proofs.lemmas.List.{map-append, take-append-drop, length-take-le}
 use Rattle.bh_spec.specs.declared.NoForm.{NoForm}
 use Rattle.bh_spec.specs.declared.NoForm.TheVariants as no
 use Rattle.bh_spec.specs.declared.Refusal.{Refusal}
@@ -12,6 +12,7 @@ use Rattle.bh_push.specs.Standing.{IsRight}
 use Rattle.bh_stream.specs.Decoding.{content_items, IsAlive, IsSilent, Took}
 use Rattle.bh_stream.specs.declared.traits.Event.{Event}
 use Rattle.bh_stream.specs.declared.traits.Event.TheVariants as events
+use Rattle.bh_stream.proofs.Moving.{items-map}
 use Rattle.bh_reading.specs.Readings as binary
 use Rattle.bh_reading.specs.Readings.{Counted}
 use Rattle.bh_reading.specs.ReadingLaws.{alive_behind, reading_laws}
@@ -24,8 +25,8 @@ use Rattle.h1_head.specs.Room.{room_in, count_in}
 use Rattle.h1_judge.specs.declared.judged.IntoWhy.TheVariants as why
 use Rattle.h1_judge.specs.declared.judging.Judge.{Judge}
 use Rattle.h1_judge.specs.Courses.{start_of, own_fields, cleaned_item, cleaned_items, Course, behind_item, item_form}
-use Rattle.h1_judge.specs.Views.{JudgedView, rest, limits, Prompt, Moved, IsFitting, IsReady, shows, IsRefused, IsJudged}
-use Rattle.h1_judge.specs.Judges.{course_of, view_of, HasRoom, KeepsRoom, IsCounting, IsSound, HasRoomFor, Judges, IsLastJudged, AreCounted, Leaves, IsShown}
+use Rattle.h1_judge.specs.Views.{JudgedView, rest, limits, Prompt, Moved, IsFitting, IsReady, shows, IsRefused, IsJudged, AreContent}
+use Rattle.h1_judge.specs.Judges.{course_of, view_of, HasRoom, KeepsRoom, IsCounting, IsSound, HasRoomFor, Judges, IsShort, IsLastJudged, AreCounted, Leaves, IsShown}
 use Rattle.h1_judge.specs.JudgedLaws.{cleaned-content, alive_there, judged_laws}
 
 -- ---- rooms
@@ -136,9 +137,9 @@ module _ (c d : Counted) (j k : Judge) (ready : IsReady (view_of c j)) where
       } in
       record { some = took.some; inside = took.inside; moved = moved; alive = alive_there v w (take n piece) (map content_byte bytes) moved }
 
-  pub content_judged : (piece : List ℕ) (n : ℕ) (bytes : List ℕ) (form : NoForm) → Took binary.rest binary.Moved c piece n (map content_byte bytes) d
-      → IsBehindContent d.held.decoder.at → Prompt d → IsLastJudged j.to_head (course_of j) bytes form → IsRefused v piece (why.Form form)
-  content_judged piece n bytes form took right prompt h =
+  pub content_judged : (piece : List ℕ) (n : ℕ) (bytes : List ℕ) (form : NoForm) → IsShort j.framing j.counted (length piece) → length bytes ≤ n
+      → Took binary.rest binary.Moved c piece n (map content_byte bytes) d → IsBehindContent d.held.decoder.at → Prompt d → IsLastJudged j.to_head (course_of j) bytes form → IsRefused v piece (why.Form form)
+  content_judged piece n bytes form short few took right prompt h =
       let items : map content_byte bytes ≡ map content_byte h.front ++ content_byte h.last ∷ []
           = ap (map content_byte) h.split ∙ map-append content_byte h.front (h.last ∷ []) in
       refused_here piece n form (record {
@@ -148,11 +149,26 @@ module _ (c d : Counted) (j k : Judge) (ready : IsReady (view_of c j)) where
         moved = subst (λ (q : List Item). binary.Moved c (take n piece) q d) items took.moved;
         free = h.free;
         judged = h.judged;
+        full = omega (
+          arith,
+          h.far (length piece) short,
+          few,
+          took.inside,
+          length-take-le n piece took.inside,
+          items-map h.front,
+          ap length h.split,
+          length-append h.front (h.last ∷ []),
+        );
         right = right;
         prompt = prompt;
       })
 
   -- ---- events
+
+  full_of : (event : Event) (item : Item) → binary.shows d event item → (bytes : List ℕ) (raw : List Item) → AreContent bytes raw item
+  full_of (events.Interim status) item s bytes raw = subst (AreContent bytes raw) (sym s.1) tt
+  full_of events.Head item s bytes raw = subst (AreContent bytes raw) (sym s.2) tt
+  full_of events.Trailers item s bytes raw = subst (AreContent bytes raw) (sym s.1) tt
 
   pub event_judged : (piece : List ℕ) (n : ℕ) (event : Event) (item : Item) (form : NoForm)
       → Took binary.rest binary.Moved c piece n (item ∷ []) d → binary.shows d event item → IsRightOf event d.held.decoder.at → Prompt d
@@ -165,6 +181,7 @@ module _ (c d : Counted) (j k : Judge) (ready : IsReady (view_of c j)) where
         moved = took.moved;
         free = tt;
         judged = sym h.answer;
+        full = full_of event item shown (take n piece) [];
         right = right_of d event item shown right;
         prompt = prompt;
       })

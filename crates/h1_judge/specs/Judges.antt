@@ -96,6 +96,7 @@ pub record IsLastJudged (to_head : Bool) (c : Course) (bytes : List ℕ) (form :
   pub split : bytes ≡ front ++ last ∷ []
   pub free : AreFree to_head c (map content_byte front)
   pub judged : item_form (behind to_head c (map content_byte front)) (content_byte last) ≡ Some form
+  pub far : (long : ℕ) → IsShort c.framing c.counted long → long ≤ length bytes
 
 -- no rule holds for any of the bytes, and what is known stands behind them
 pub record AreCounted (to_head : Bool) (c : Course) (bytes : List ℕ) (d : Course) : Type 0 where

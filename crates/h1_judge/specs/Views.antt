@@ -1,5 +1,5 @@
 -- The decoder that judges, as the loop over a port sees it. It hands out the items of the cleaned message.
-use Rattle.std.specs.Prelude.{ℕ, ◌≡◌, Bool, false, Option, Some, None, List, [], ◌∷◌, ◌++◌}
+use Rattle.std.specs.Prelude.{ℕ, ◌≡◌, Bool, false, Option, Some, None, List, [], ◌∷◌, ◌++◌, ◌+◌, length}
 use Rattle.bh_spec.specs.declared.Omitted.{Omitted}
 use Rattle.bh_spec.specs.declared.Omitted.TheVariants.{Nothing}
 use Rattle.bh_spec.specs.declared.NoForm.{NoForm}
@@ -10,6 +10,7 @@ use Rattle.bh_spec.specs.Canonical.{FieldsFit}
 use Rattle.bh_spec.specs.Texts.{Text}
 use Rattle.bh_spec.specs.Items.{Item, interim_response, head, content_byte, trailer_section, ending, Head}
 use Rattle.bh_push.specs.Standing.{IsRight, IsPrompt}
+use Rattle.bh_stream.specs.Decoding.{content_items}
 use Rattle.bh_stream.specs.declared.traits.Event.{Event}
 use Rattle.bh_stream.specs.declared.traits.Event.TheVariants as events
 use Rattle.bh_reading.specs.Readings as binary
@@ -102,6 +103,14 @@ shows v events.Trailers item = (raw : List Field) × (item ≡ trailer_section v
 
 -- ---- refusals
 
+-- Where the last item is a byte of content, each of the bytes was one.
+abbrev pub AreContent : List ℕ → List Item → Item → Type 0
+AreContent bytes raw (interim_response status fields) = Unit {0}
+AreContent bytes raw (head of fields) = Unit {0}
+AreContent bytes raw (content_byte x) = length bytes ≡ content_items raw + 1
+AreContent bytes raw (trailer_section fields) = Unit {0}
+AreContent bytes raw (ending omitted padding) = Unit {0}
+
 -- With the last of the bytes an item comes for which a rule holds, and none does for those before it. This is the first rule that does.
 pub record IsJudged (v : JudgedView) (bytes : List ℕ) (form : NoForm) : Type 0 where
   pub raw : List Item
@@ -110,6 +119,7 @@ pub record IsJudged (v : JudgedView) (bytes : List ℕ) (form : NoForm) : Type 0
   pub moved : binary.Moved v.reading bytes (raw ++ last ∷ []) state
   pub free : AreFree v.to_head v.course raw
   pub judged : item_form (behind v.to_head v.course raw) last ≡ Some form
+  pub full : AreContent bytes raw last
   pub right : IsRight (last ∷ []) state.held.decoder.at
   pub prompt : Prompt state
 

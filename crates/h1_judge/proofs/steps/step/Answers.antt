@@ -17,7 +17,7 @@ pub returns-in-Some-clause-pushed : goal.returns-in-Some-clause-pushed
 returns-in-Some-clause-pushed c =
     let e = c.in-Content.ensures in
     content_judged c.args.reading.now c.read.new.self c.args.judge.now c.content.new.self c.requires.ready c.args.bytes.now c.in-Content.taken c.in-Content.content.now
-    c.in-Some.form e.pushed.0 e.right (e.prompt e.pushed.0.moved.refusal) c.in-Some.ensures.counts
+    c.in-Some.form c.requires.short e.pushed.2 e.pushed.0 e.right (e.prompt e.pushed.0.moved.refusal) c.in-Some.ensures.counts
 
 pub returns-in-None-clause-pushed : goal.returns-in-None-clause-pushed
 returns-in-None-clause-pushed c =
