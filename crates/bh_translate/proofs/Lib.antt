@@ -1,2 +1,4 @@
 pub mod Left
 pub mod Joining
+pub mod Starting
+pub mod IntoEnding

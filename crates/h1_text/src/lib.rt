@@ -4,8 +4,11 @@
 mod bodies;
 mod gathered;
 mod heads;
+mod job;
 mod laws;
 mod stage;
+#[cfg(test)]
+mod tests;
 mod writer;
 
 pub use laws::the_text_is_owed;

@@ -1,5 +1,0 @@
-pub mod Marked
-pub mod Heads
-pub mod Bodies
-pub mod Wrong
-pub mod Alive
