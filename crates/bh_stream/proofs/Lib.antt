@@ -13,3 +13,4 @@ pub mod Formats
 pub mod Messages
 pub mod Calls
 pub mod Silent
+pub mod Tails

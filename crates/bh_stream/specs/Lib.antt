@@ -8,3 +8,4 @@ pub mod Runs
 pub mod Formats
 pub mod Messages
 pub mod Calls
+pub mod Tails

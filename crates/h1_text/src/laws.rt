@@ -1,0 +1,8 @@
+//! Laws of what is written. The function is empty: its contract is the laws.
+ghost use Rattle.h1_text.specs.Laws.{OwesTheText, IsTheText};
+
+/// What is owed for the items of a message is its text.
+pub fn the_text_is_owed()
+    ensures owes { OwesTheText }
+    ensures is { IsTheText }
+{}
