@@ -18,3 +18,7 @@ pub all_text : (start : List ℕ) (a b c : List Field)
     → start ++ (field_lines a ++ (field_lines b ++ (field_lines c ++ crlf))) ≡ start ++ section_text (a ++ (b ++ c))
 all_text start a b c =
     ap (λ (t : List ℕ). start ++ (field_lines a ++ t)) (two_sections b c) ∙ ap (λ (t : List ℕ). start ++ t) (two_sections a (b ++ c))
+
+-- behind a start line, the host line and fields
+pub front_text : (start : List ℕ) (a b : List Field) → start ++ (field_lines a ++ field_lines b) ≡ start ++ field_lines (a ++ b)
+front_text start a b = ap (λ (t : List ℕ). start ++ t) (sym (flat_map-append field_line a b))

@@ -4,3 +4,4 @@ pub mod Spanned
 pub mod Parsed
 pub mod Ends
 pub mod Laws
+pub mod Fronts

@@ -16,4 +16,6 @@ pub use h1_spec::Framing1;
 pub use head::{Head1, HeadWhy, StartLine, parse_head};
 pub use laws::{one_step, read_back, reads_alike, written_is_a_head};
 pub use reader::{HeadReader, HeadStep};
-pub use writing::{put_section, write_request_head, write_response_head};
+pub use writing::{
+    put_section, write_head_end, write_request_front, write_request_head, write_response_head,
+};

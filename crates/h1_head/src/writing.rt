@@ -1,11 +1,12 @@
 //! Writes heads, each in as few writes as its bytes allow.
-ghost use Rattle.std.specs.Prelude.{◌≡◌, ◌<◌, ◌++◌, option_map, is_err, codes};
+ghost use Rattle.std.specs.Prelude.{◌≡◌, ◌<◌, ◌++◌, option_map, is_err, false, codes};
 ghost use Rattle.bh_base.specs.Batches.{Puts, Writes};
 ghost use Rattle.bh_base.specs.Steps.{Counts};
 ghost use Rattle.h1_spec.specs.Grammar.{crlf};
 ghost use Rattle.h1_spec.specs.Heads.{request_line, status_line, three_digits};
 ghost use Rattle.h1_spec.specs.Http1Text.{field_line, field_lines};
 ghost use Rattle.h1_spec.specs.Written.{start_text, section_text, text_of_head, host_line, coding_line, request_written, response_written, IsWritable};
+ghost use Rattle.h1_head.specs.Fronts.{request_front};
 
 use bh_base::{Batch, Failed, Sink};
 use bh_model::Fields;
@@ -30,6 +31,37 @@ pub fn write_request_head<S: Sink>(
     put_request_line(&mut out, sink, method, target);
     put_host(&mut out, sink, host);
     put_fields(&mut out, sink, fields);
+    put_coding(&mut out, sink, chunked);
+    out.put(sink, b"\r\n");
+    out.flush(sink)
+}
+
+/// Writes the head of a request up to its end, where its body isn't known yet. At `Failed` a prefix of it went out.
+pub fn write_request_front<S: Sink>(
+    sink: &mut S,
+    method: &[u8],
+    target: &[u8],
+    host: Option<&[u8]>,
+    fields: &Fields,
+) -> Result<(), Failed>
+    requires { IsWritable (request_written method.now target.now (option_map (λ host. host.now) host) fields.now.lines false) }
+    ensures wrote { Writes S.write_step sink.old
+        (request_front method.now target.now (option_map (λ host. host.now) host.entry) fields.now.lines) result sink.new }
+    ensures counts { Counts (is_err result) (S.write_faults sink.old) (S.write_faults sink.new) }
+{
+    let mut out = Batch::new();
+    put_request_line(&mut out, sink, method, target);
+    put_host(&mut out, sink, host);
+    put_fields(&mut out, sink, fields);
+    out.flush(sink)
+}
+
+/// Writes the end of such a head: a line that says that chunks follow, where they do, and the empty line.
+pub fn write_head_end<S: Sink>(sink: &mut S, chunked: bool) -> Result<(), Failed>
+    ensures wrote { Writes S.write_step sink.old (section_text (coding_line chunked)) result sink.new }
+    ensures counts { Counts (is_err result) (S.write_faults sink.old) (S.write_faults sink.new) }
+{
+    let mut out = Batch::new();
     put_coding(&mut out, sink, chunked);
     out.put(sink, b"\r\n");
     out.flush(sink)
