@@ -31,14 +31,18 @@ coding_is ToEnd = refl
 lines_on : (a b : List Field) → field_lines (a ++ b) ≡ field_lines a ++ field_lines b
 lines_on a b = flat_map-append field_line a b
 
+-- a start line and two runs of fields
+pub split_head : (start : List ℕ) (a b : List Field) → start ++ (field_lines (a ++ b) ++ crlf) ≡ (start ++ field_lines a) ++ (field_lines b ++ crlf)
+split_head start a b =
+    ap (λ (l : List ℕ). start ++ (l ++ crlf)) (lines_on a b) ∙ ap (λ (l : List ℕ). start ++ l) (append_assoc (field_lines a) (field_lines b) crlf)
+    ∙ sym (append_assoc start (field_lines a) (field_lines b ++ crlf))
+
 -- a head is its front and its end
 pub head_is : (f : Framing1) (m : Message) → head_text f m ≡ head_front m.start m.fields ++ head_end (is_chunked f)
 head_is f m =
     let first = said_host m.start ++ m.fields in
     ap (λ (l : List Field). start_line m.start ++ (field_lines l ++ crlf)) (sym (append_assoc (said_host m.start) m.fields (coding_lines f)))
-    ∙ ap (λ (l : List ℕ). start_line m.start ++ (l ++ crlf)) (lines_on first (coding_lines f))
-    ∙ ap (λ (l : List ℕ). start_line m.start ++ l) (append_assoc (field_lines first) (field_lines (coding_lines f)) crlf)
-    ∙ sym (append_assoc (start_line m.start) (field_lines first) (field_lines (coding_lines f) ++ crlf))
+    ∙ split_head (start_line m.start) first (coding_lines f)
     ∙ ap (λ (l : List Field). head_front m.start m.fields ++ (field_lines l ++ crlf)) (coding_is f)
 
 -- ---- the body

@@ -18,7 +18,8 @@ use Rattle.bh_stream.specs.Outputs.{Output, written, shown_in, plain, shown}
 use Rattle.bh_stream.proofs.Outputs.{written-append, shown-append, written_plain, written_shown, shown_plain, shown_shown}
 use Rattle.bh_stream.specs.Tails.{content_of, trailers_of}
 use Rattle.bh_stream.proofs.Tails.{content_behind, trailers_behind}
-use Rattle.h1_text.specs.Owed.{chunk_out, body_out, is_chunked, start_of, head_front, head_end, final_out, is_none, is_open, has_body, message_of, head_held, in_body, at_start, owed}
+use Rattle.h1_text.specs.Ends.{piece_out}
+use Rattle.h1_text.specs.Owed.{chunk_out, body_out, is_chunked, start_of, head_front, head_end, final_out, is_none, is_open, says_chunks, has_body, message_of, head_held, in_body, at_start, owed}
 
 -- ---- cutting
 
@@ -113,11 +114,6 @@ body_shows false content trailers = shown_shown content
 
 -- ---- content
 
--- what goes out of a whole chunk
-abbrev pub piece_out : Bool → List ℕ → Output
-piece_out true full = chunk_out full
-piece_out false full = shown full
-
 pub piece_shows : (chunked : Bool) (full : List ℕ) → shown_in (piece_out chunked full) ≡ length full
 piece_shows true full = chunk_shows full
 piece_shows false full = shown_shown full
@@ -126,7 +122,7 @@ pub piece_bytes : (chunked : Bool) (full : List ℕ) → written (piece_out chun
 piece_bytes true full = chunk_bytes full
 piece_bytes false full = written_shown full
 
-piece_first : (chunked : Bool) (full back : List ℕ) (trailers : List Field) → length full ≡ 8192 → body_out chunked (full ++ back) trailers ≡ piece_out chunked full ++ body_out chunked back trailers
+pub piece_first : (chunked : Bool) (full back : List ℕ) (trailers : List Field) → length full ≡ 8192 → body_out chunked (full ++ back) trailers ≡ piece_out chunked full ++ body_out chunked back trailers
 piece_first true full back trailers e =
     ap (λ (l : List (List ℕ)). flat_map chunk_out l ++ plain (last_text trailers)) (whole_first full back e)
     ∙ append_assoc (chunk_out full) (flat_map chunk_out (cut 8192 back)) (plain (last_text trailers))
@@ -169,10 +165,6 @@ announced_is : (to_head : Bool) (of : Head) (fields : List Field) (q : List Item
     → framing_written to_head (message_of of fields q) ≡ announced to_head (start_of of) fields
 announced_is to_head (of_response status) fields q h = refl
 announced_is to_head (of_request control) fields q h = said (lengths fields) (is_bare (message_of (of_request control) fields q) (request control)) h
-
--- does it announce chunks?
-abbrev pub says_chunks : Bool → Head → List Field → Bool
-says_chunks to_head of fields = is_chunked (announced to_head (start_of of) fields)
 
 pub head_due : (to_head : Bool) (of : Head) (fields : List Field) (q : List Item) → is_open of fields ≡ false
     → owed to_head at_start (head of fields ∷ q)

@@ -7,6 +7,7 @@ use Rattle.h1_spec.specs.declared.Framing1.{Framing1}
 use Rattle.h1_spec.specs.declared.Framing1.TheVariants.{Empty, Counted, Chunked, ToEnd}
 use Rattle.h1_spec.specs.Grammar.{crlf}
 use Rattle.h1_spec.specs.Framing.{lengths}
+use Rattle.h1_spec.specs.Moments.{announced}
 use Rattle.h1_spec.specs.Http1Text.{field_lines, interim_text, start_line, said_host, hex_within, head_text, body_text, interims_text, framing_written}
 use Rattle.h1_spec.specs.Written.{last_text, coding_line}
 use Rattle.bh_stream.specs.Outputs.{Output, plain, shown}
@@ -58,7 +59,11 @@ abbrev pub is_open : Head → List Field → Bool
 is_open (of_response status) fields = false
 is_open (of_request control) fields = is_none (lengths fields)
 
--- such a request has a body where there is content, or a trailer
+-- does a head that doesn't leave it open say that chunks follow?
+abbrev pub says_chunks : Bool → Head → List Field → Bool
+says_chunks to_head of fields = is_chunked (announced to_head (start_of of) fields)
+
+-- a request whose head leaves it open has a body where there is content, or a trailer
 abbrev pub has_body : List ℕ → List Field → Bool
 has_body [] [] = false
 has_body [] (line ∷ more) = true

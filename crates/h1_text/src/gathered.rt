@@ -1,5 +1,6 @@
 //! Bytes that are gathered in memory that was taken before.
-ghost use Rattle.std.specs.Prelude.{◌≡◌, ◌+◌, [], IfOk, length};
+ghost use Rattle.std.specs.Prelude.{◌≡◌, ◌≤◌, ◌+◌, [], IfOk, length};
+ghost use Rattle.h1_text.specs.Gathering.{with_bytes};
 
 use bh_base::{Failed, NoMemory, Sink};
 use std::alloc::Global;
@@ -39,6 +40,15 @@ impl Gathered {
     {
         self.room += self.bytes.len();
         self.bytes.clear();
+    }
+
+    /// Holds these bytes too.
+    pub(crate) fn put(&mut self, bytes: &[u8])
+        requires { length bytes.now ≤ self.old.room }
+        ensures { self.new ≡ with_bytes self.old bytes.now }
+    {
+        let _ = self.bytes.extend_from_slice(bytes);
+        self.room -= bytes.len();
     }
 
     /// What it holds.
