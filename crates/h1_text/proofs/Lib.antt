@@ -5,3 +5,5 @@ pub mod Sending
 pub mod Chunking
 pub mod Jobs
 pub mod HeadParts
+pub mod Free
+pub mod Room

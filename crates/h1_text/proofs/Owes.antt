@@ -28,7 +28,7 @@ coding_is (Counted n) = refl
 coding_is Chunked = refl
 coding_is ToEnd = refl
 
-lines_on : (a b : List Field) → field_lines (a ++ b) ≡ field_lines a ++ field_lines b
+pub lines_on : (a b : List Field) → field_lines (a ++ b) ≡ field_lines a ++ field_lines b
 lines_on a b = flat_map-append field_line a b
 
 -- a start line and two runs of fields

@@ -9,6 +9,7 @@ use Rattle.bh_base.specs.Steps.{Step}
 use Rattle.h1_spec.specs.Heads.{request_line, status_line}
 use Rattle.h1_spec.specs.Heads as heads
 use Rattle.h1_spec.specs.Http1Text.{target_text, host_lines}
+use Rattle.bh_stream.specs.Outputs.{Output}
 use Rattle.bh_stream.specs.Jobs.{Sends}
 use Rattle.h1_text.specs.Gathering.{GatheredView}
 use Rattle.h1_text.specs.Owed.{Duty, at_start, head_held, in_body, all_done, owed, held, head_front, head_end}
@@ -81,10 +82,17 @@ abbrev pub head_of : Start → List Field → heads.Head
 head_of (request control) fields = record { start = request_line control.method (target_text control); fields = host_lines control ++ fields }
 head_of (response interims status) fields = record { start = status_line status; fields = fields }
 
+-- what is still to be written, and how many bytes of content are held
+abbrev pub owes : Writing → List Item → Output
+owes v q = owed v.to_head v.duty q
+
+abbrev pub holds : Writing → ℕ
+holds v = held v.duty
+
 -- what a call did for items
 abbrev pub JobSends : {S : Type 0} → (S → Step → S → Type 0) → Writing → Writing → List Item → S → Result (Unit {0}) Failed → S → Type 0
 JobSends step v w items s r t =
-    Sends step true 8191 (owed v.to_head v.duty) (owed w.to_head w.duty) (held v.duty) (held w.duty) (takes v) (takes w) items s r t
+    Sends step true 8191 (owes v) (owes w) (holds v) (holds w) (takes v) (takes w) items s r t
 
 -- ---- the fields
 

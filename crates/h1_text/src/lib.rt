@@ -6,6 +6,8 @@ mod gathered;
 mod heads;
 mod laws;
 mod stage;
+#[cfg(test)]
+mod tests;
 mod writer;
 
 pub use laws::the_text_is_owed;

@@ -94,7 +94,8 @@ impl Http1Writer {
     ) -> Result<(), Failed>
         requires start { self.old.duty ≡ at_start }
         requires writable { IsWritable (head_of (response [] status) fields.now.lines) }
-        ensures { JobSends S.write_step self.old self.new (interim_response status fields.now.lines ∷ []) sink.old result sink.new }
+        ensures stays { self.new ≡ self.old }
+        ensures sends { JobSends S.write_step self.old self.new (interim_response status fields.now.lines ∷ []) sink.old result sink.new }
     {
         write_response_head(sink, status, fields, false)
     }
@@ -108,7 +109,8 @@ impl Http1Writer {
     ) -> Result<(), Failed>
         requires start { self.old.duty ≡ at_start }
         requires writable { IsWritable (head_of (response [] status) fields.now.lines) }
-        ensures { JobSends S.write_step self.old self.new (head (of_response status) fields.now.lines ∷ []) sink.old result sink.new }
+        ensures next { IsBehindHead self.new.duty }
+        ensures sends { JobSends S.write_step self.old self.new (head (of_response status) fields.now.lines ∷ []) sink.old result sink.new }
     {
         let chunked = is_chunked(self.to_head, status, fields);
         self.stage = Stage::Body { chunked };
@@ -125,7 +127,8 @@ impl Http1Writer {
         requires start { self.old.duty ≡ at_start }
         requires writable { IsWritable (head_of (request (control_lent control)) fields.now.lines) }
         requires room { HasRoom self.old (of_request (control_lent control)) fields.now.lines }
-        ensures { JobSends S.write_step self.old self.new (head (of_request (control_lent control.entry)) fields.now.lines ∷ []) sink.old result sink.new }
+        ensures next { IsBehindHead self.new.duty }
+        ensures sends { JobSends S.write_step self.old self.new (head (of_request (control_lent control.entry)) fields.now.lines ∷ []) sink.old result sink.new }
     {
         put_target(&mut self.target, control);
         if has_length(fields) {
@@ -142,7 +145,8 @@ impl Http1Writer {
         requires place { IsBehindHead self.old.duty }
         requires some { 0 < length bytes.now }
         requires size { length bytes.now ≤ 8192 }
-        ensures { JobSends S.write_step self.old self.new (map content_byte bytes.now) sink.old result sink.new }
+        ensures next { IsBehindHead self.new.duty }
+        ensures sends { JobSends S.write_step self.old self.new (map content_byte bytes.now) sink.old result sink.new }
     {
         if let Stage::Body { chunked } = self.stage {
             return keep(&mut self.chunk, sink, chunked, bytes);
@@ -159,13 +163,8 @@ impl Http1Writer {
         ensures { JobSends S.write_step self.old self.new (trailer_section fields.now.lines ∷ []) sink.old result sink.new }
     {
         let stage = mem::replace(&mut self.stage, Stage::Ended);
-        send_end(
-            stage,
-            &mut self.head,
-            content_of(&self.chunk),
-            sink,
-            fields,
-        )
+        let kept = content_of(&self.chunk);
+        send_end(stage, &mut self.head, kept, sink, fields)
     }
 
     /// What is left goes out, where the trailer section is left out.
@@ -174,12 +173,7 @@ impl Http1Writer {
             → SendsRest S.write_step true (owed self.old.to_head self.old.duty (ending omitted padding ∷ [])) sink.old result sink.new }
     {
         let stage = mem::replace(&mut self.stage, Stage::Ended);
-        send_end(
-            stage,
-            &mut self.head,
-            content_of(&self.chunk),
-            sink,
-            &self.none,
-        )
+        let kept = content_of(&self.chunk);
+        send_end(stage, &mut self.head, kept, sink, &self.none)
     }
 }

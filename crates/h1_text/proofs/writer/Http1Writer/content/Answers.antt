@@ -6,8 +6,8 @@ use Rattle.h1_text.specs.declared.stage.Stage.TheVariants as stages
 use Rattle.h1_text.proofs.Jobs.{content_kept, head_failed, head_first, is_held, held_empty}
 use Rattle.h1_text.proofs.writer.Http1Writer.content.Goals as goal
 
-pub returns-in-Body : goal.returns-in-Body
-returns-in-Body g c =
+pub returns-in-Body-clause-sends : goal.returns-in-Body-clause-sends
+returns-in-Body-clause-sends g c =
     let i = c.self.inside in
     let kept : List ℕ = drop 6 i.chunk.items in
     let keeps : List ℕ = drop 6 c.keep.new.chunk.items in
@@ -15,8 +15,8 @@ returns-in-Body g c =
     content_kept c.args.self.now (writing_of i.stage i.to_head i.target i.head keeps) c.in-Body.chunked kept c.args.bytes.now keeps c.keep.result
     (sym (ap (λ (v : Writing). v.duty) c.self.view_is) ∙ stage_is kept) (ap (λ (v : Writing). v.to_head) c.self.view_is) (stage_is keeps) c.keep.ensures.keeps
 
-pub returns-in_err-send_head : goal.returns-in_err-send_head
-returns-in_err-send_head g c =
+pub returns-in_err-send_head-clause-sends : goal.returns-in_err-send_head-clause-sends
+returns-in_err-send_head-clause-sends g c =
     let i = c.self.inside in
     let kept : List ℕ = drop 6 i.chunk.items in
     let duty : duty_of i.stage i.head.bytes kept ≡ c.args.self.now.duty = ap (λ (v : Writing). v.duty) c.self.view_is in
@@ -24,8 +24,8 @@ returns-in_err-send_head g c =
     head_failed c.args.self.now (writing_of (stages.Body true) i.to_head i.target c.send_head.new.head kept) i.head.bytes c.args.bytes.now c.send_head.result c.from_residual.result
     (sym duty ∙ ap (λ (st : Stage). duty_of st i.head.bytes kept) stage) c.requires.some c.in_err-send_head.was c.from_residual.ensures.0 c.send_head.ensures.sends
 
-pub returns : goal.returns
-returns g c =
+pub returns-clause-sends : goal.returns-clause-sends
+returns-clause-sends g c =
     let i = c.self.inside in
     let kept : List ℕ = drop 6 i.chunk.items in
     let keeps : List ℕ = drop 6 c.keep-2.new.chunk.items in

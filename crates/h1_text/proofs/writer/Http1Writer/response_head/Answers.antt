@@ -10,8 +10,8 @@ use Rattle.h1_text.proofs.writer.Http1Writer.response_head.Goals as goal
 pub write_response_head-requires : goal.write_response_head-requires
 write_response_head-requires g c = response_writable c.args.status c.args.fields.now.lines c.is_chunked-chunked.result c.requires.writable
 
-pub returns : goal.returns
-returns g c =
+pub returns-clause-sends : goal.returns-clause-sends
+returns-clause-sends g c =
     let i = c.self.inside in
     let kept : List ℕ = drop 6 i.chunk.items in
     let chunked = c.is_chunked-chunked.result in

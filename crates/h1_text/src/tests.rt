@@ -1,0 +1,115 @@
+//! Messages over a sink in memory.
+use super::Http1Writer;
+use bh_base::{MemSink, NoMemory};
+use bh_model::{ControlView, Fields, Limits};
+use std::alloc::Global;
+
+/// What is sent of a response behind an interim response, without lines and with an empty trailer section. Empty: a write failed.
+fn response(
+    alloc: Global,
+    to_head: bool,
+    status: u16,
+    content: &[u8],
+) -> Result<Vec<u8>, NoMemory> {
+    let none = Fields::with_room(alloc, 0, 0)?;
+    let mut sink = MemSink::new(alloc, Vec::new(alloc), 9000)?;
+    let mut writer = Http1Writer::new(alloc, &Limits::default(), to_head)?;
+    if status < 200 || status > 599 || content.len() > 8192 {
+        return Ok(Vec::new(alloc));
+    }
+    if writer.interim(&mut sink, 103, &none).is_err() {
+        return Ok(Vec::new(alloc));
+    }
+    if writer.response_head(&mut sink, status, &none).is_err() {
+        return Ok(Vec::new(alloc));
+    }
+    if !content.is_empty() && writer.content(&mut sink, content).is_err() {
+        return Ok(Vec::new(alloc));
+    }
+    if writer.trailers(&mut sink, &none).is_err() {
+        return Ok(Vec::new(alloc));
+    }
+    Ok(sink.sent().to_vec(alloc)?)
+}
+
+/// What is sent of a request without lines and without a trailer section, before its content and with it. Empty: a write failed.
+fn request(alloc: Global, content: &[u8]) -> Result<(Vec<u8>, Vec<u8>), NoMemory> {
+    let none = Fields::with_room(alloc, 0, 0)?;
+    let control = ControlView {
+        method: b"PUT",
+        scheme: b"https",
+        authority: b"",
+        path: b"/a",
+    };
+    let mut sink = MemSink::new(alloc, Vec::new(alloc), 9000)?;
+    let mut writer = Http1Writer::new(alloc, &Limits::default(), false)?;
+    if content.len() > 8192 || writer.request_head(&mut sink, control, &none).is_err() {
+        return Ok((Vec::new(alloc), Vec::new(alloc)));
+    }
+    let before = sink.sent().to_vec(alloc)?;
+    if !content.is_empty() && writer.content(&mut sink, content).is_err() {
+        return Ok((Vec::new(alloc), Vec::new(alloc)));
+    }
+    if writer.finish(&mut sink).is_err() {
+        return Ok((Vec::new(alloc), Vec::new(alloc)));
+    }
+    let all = sink.sent().to_vec(alloc)?;
+    Ok((before, all))
+}
+
+#[test]
+fn responses_are_written(rt: HostRuntime) -> Result<(), NoMemory> {
+    let alloc = rt.alloc();
+    let rows: [(&str, bool, u16, &[u8], &[u8]); 4] = [
+        (
+            "a chunk",
+            false,
+            200,
+            b"abc",
+            b"HTTP/1.1 103 \r\n\r\nHTTP/1.1 200 \r\ntransfer-encoding: chunked\r\n\r\n3\r\nabc\r\n0\r\n\r\n",
+        ),
+        (
+            "no content",
+            false,
+            500,
+            b"",
+            b"HTTP/1.1 103 \r\n\r\nHTTP/1.1 500 \r\ntransfer-encoding: chunked\r\n\r\n0\r\n\r\n",
+        ),
+        (
+            "an answer to HEAD",
+            true,
+            200,
+            b"",
+            b"HTTP/1.1 103 \r\n\r\nHTTP/1.1 200 \r\n\r\n",
+        ),
+        (
+            "no body",
+            false,
+            304,
+            b"",
+            b"HTTP/1.1 103 \r\n\r\nHTTP/1.1 304 \r\n\r\n",
+        ),
+    ];
+    for (shows, to_head, status, content, text) in rows {
+        let got = response(alloc, to_head, status, content)?;
+        assert_eq!(rt; got, text.to_vec(alloc)?, "{shows}");
+    }
+    Ok(())
+}
+
+#[test]
+fn requests_are_written(rt: HostRuntime) -> Result<(), NoMemory> {
+    let alloc = rt.alloc();
+    let bare = request(alloc, b"")?;
+    let text = b"PUT /a HTTP/1.1\r\n\r\n".to_vec(alloc)?;
+    assert_eq!(rt; bare, (Vec::new(alloc), text), "no body");
+    let short = request(alloc, b"abc")?;
+    let text =
+        b"PUT /a HTTP/1.1\r\ntransfer-encoding: chunked\r\n\r\n3\r\nabc\r\n0\r\n\r\n".to_vec(alloc)?;
+    assert_eq!(rt; short, (Vec::new(alloc), text), "a chunk");
+    let whole = request(alloc, &[b'x'; 8192])?.1;
+    assert_eq!(rt; whole.len(), 47 + 8200 + 5, "a whole chunk");
+    assert_eq!(rt; &whole[47..53], b"2000\r\n".as_slice());
+    assert_eq!(rt; &whole[8245..], b"\r\n0\r\n\r\n".as_slice());
+    Ok(())
+}
