@@ -25,7 +25,7 @@ int_some n = by_width (least_width n)
     by_width Eight = omega arith
 
 -- the text of lines has two bytes at least beside each name and value
-room_lines : (fields : List Field) → lines_room fields ≤ length (lines fields)
+pub room_lines : (fields : List Field) → lines_room fields ≤ length (lines fields)
 room_lines [] = omega arith
 room_lines (f ∷ fields) =
     omega (
@@ -43,7 +43,7 @@ few_lines : (fields : List Field) → All IsNamed fields → 3 * length fields �
 few_lines [] h = omega arith
 few_lines (f ∷ fields) h = omega (arith, few_lines fields (All-tail IsNamed f fields h), All-head IsNamed f fields h)
 
-within_at : (o : Option ℕ) (limit n : ℕ) → o ≡ Some limit → IsWithin o n → n ≤ limit
+pub within_at : (o : Option ℕ) (limit n : ℕ) → o ≡ Some limit → IsWithin o n → n ≤ limit
 within_at (Some k) limit n e h = let same : k ≡ limit = cc in omega (arith, h, same)
 within_at None limit n e h = absurd (cc)
 

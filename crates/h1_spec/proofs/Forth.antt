@@ -35,7 +35,7 @@ use Rattle.h1_spec.proofs.Written.{section_written, status_written, request_writ
 
 -- ---- fields that can be written
 
-text_fields : (fs : List Field) → All IsRegularField fs → has_bad_value fs ≡ false → All IsHeadField fs
+pub text_fields : (fs : List Field) → All IsRegularField fs → has_bad_value fs ≡ false → All IsHeadField fs
 text_fields fs h v k d i =
     let good = AllPass-from_list_all (λ (f : Field). list_all is_text_value f.value) fs (not-false (list_all (λ (f : Field). list_all is_text_value f.value) fs) v) in
     let own = h k d i in
@@ -56,7 +56,7 @@ regular_headers fs h n = by_case h.0 h.1 h.2 h.3 h.4
     by_case (f ∷ ps) rs e p r =
         absurd (both_ways (is_pseudo f) (or_parts (is_pseudo f) _ (sym (ap (list_any is_pseudo) e) ∙ n)).0 (pseudo_shows f (All-head IsPseudoField f ps p)))
 
-clean_headers : (drop_host : Bool) (fs : List Field) → AreHeaders fs → list_any is_pseudo fs ≡ false → has_bad_value (clean (hops fs) drop_host fs) ≡ false
+pub clean_headers : (drop_host : Bool) (fs : List Field) → AreHeaders fs → list_any is_pseudo fs ≡ false → has_bad_value (clean (hops fs) drop_host fs) ≡ false
     → All IsHeadField (clean (hops fs) drop_host fs)
 clean_headers drop_host fs h n v =
     text_fields (clean (hops fs) drop_host fs) (clean_regular (hops fs) drop_host fs (regular_headers fs h n)) v
@@ -160,7 +160,7 @@ web_target : (scheme : List ℕ) → IsWeb scheme → All (λ b. IsTrue (is_targ
 web_target scheme (inl e) = subst (All (λ b. IsTrue (is_target b))) (sym e) (AllPass-from_list_all is_target (codes "http") refl)
 web_target scheme (inr e) = subst (All (λ b. IsTrue (is_target b))) (sym e) (AllPass-from_list_all is_target (codes "https") refl)
 
-is_web_of : (scheme : List ℕ) → not (is_web scheme) ≡ false → IsWeb scheme
+pub is_web_of : (scheme : List ℕ) → not (is_web scheme) ≡ false → IsWeb scheme
 is_web_of scheme e = by_case (or_cases (bytes_eq scheme (codes "http")) (bytes_eq scheme (codes "https")) (not-false (is_web scheme) e))
   where
     by_case : (bytes_eq scheme (codes "http") ≡ true) ⊎ (bytes_eq scheme (codes "https") ≡ true) → IsWeb scheme
@@ -218,7 +218,7 @@ whole_target scheme c h w some slashed =
       gives = λ i. record { method = c.method; scheme = sym h.scheme.lower_case i; authority = c.authority; path = sym path.again i };
     }))
 
-asked_by : (scheme : Scheme1) (c : Control) (a : List ℕ) → c.authority ≡ a → IsControl c → (c.authority ≡ [] → c.scheme ≡ scheme_of scheme) → IsWeb c.scheme
+pub asked_by : (scheme : Scheme1) (c : Control) (a : List ℕ) → c.authority ≡ a → IsControl c → (c.authority ≡ [] → c.scheme ≡ scheme_of scheme) → IsWeb c.scheme
     → IsRawTarget (cond (is_empty a) c.path (c.scheme ++ (codes "://" ++ (c.authority ++ written_path c.path))))
     × IsTargetOf scheme c.method (cond (is_empty a) c.path (c.scheme ++ (codes "://" ++ (c.authority ++ written_path c.path)))) c
 asked_by scheme c [] e h s w = (
@@ -243,7 +243,7 @@ asked_by scheme c (b ∷ a) e h s w =
 abbrev host_part : List ℕ → List Field
 host_part a = cond (is_empty a) [] (record { name = codes "host"; value = a } ∷ [])
 
-host_fields : (a : List ℕ) → All (λ b. IsTrue (is_authority b)) a → All IsHeadField (host_part a)
+pub host_fields : (a : List ℕ) → All (λ b. IsTrue (is_authority b)) a → All IsHeadField (host_part a)
 host_fields [] h = All-nil IsHeadField
 host_fields (b ∷ a) h =
     All-cons IsHeadField (record { name = codes "host"; value = b ∷ a }) []

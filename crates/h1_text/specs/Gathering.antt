@@ -26,7 +26,13 @@ no_count v = 2 ^ 64 - 1
 
 pub gather_law : (v w : GatheredView) (x : Step) → Gathers v x w → WriteFacts gathered_bytes no_count v x w
 gather_law v w (Read size bytes) h = absurd h
-gather_law v w (Write size bytes) h = record { only = tt; fits = h.2; some = h.3; counts = refl; goes = bytes_are w (with_bytes v bytes) h.0 }
+gather_law v w (Write size bytes) h = record {
+  only = tt;
+  fits = h.2;
+  some = h.3;
+  counts = refl;
+  goes = bytes_are w (with_bytes v bytes) h.0;
+}
   where
     bytes_are : (x y : GatheredView) → x ≡ y → x.bytes ≡ y.bytes
     bytes_are x y e = λ i. (e i).bytes

@@ -9,9 +9,11 @@ use Rattle.h1_text.specs.Owed.{body_out}
 
 -- So much was held, these bytes came, and now so much is held, which isn't a whole chunk: an output went out that begins every body of what
 -- was held, these bytes and more.
-pub record Keeps {S : Type 0} (step : S → Step → S → Type 0) (chunked : Bool) (kept bytes keeps : List ℕ) (s : S) (r : Result (Unit {0}) Failed) (t : S) : Type 0 where
+pub record Keeps {S : Type 0} (step : S → Step → S → Type 0) (chunked : Bool) (kept bytes keeps : List ℕ) (s : S) (r : Result (Unit
+    {0}) Failed) (t : S) : Type 0 where
   pub text : Output
   pub sends : SendsRest step true text s r t
   pub few : length keeps ≤ 8191
   pub counts : shown_in text + length keeps ≡ length kept + length bytes
-  pub splits : (content : List ℕ) (trailers : List Field) → body_out chunked (kept ++ (bytes ++ content)) trailers ≡ text ++ body_out chunked (keeps ++ content) trailers
+  pub splits : (content : List ℕ) (trailers : List Field)
+      → body_out chunked (kept ++ (bytes ++ content)) trailers ≡ text ++ body_out chunked (keeps ++ content) trailers

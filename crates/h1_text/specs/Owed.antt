@@ -89,9 +89,11 @@ pub data Duty : Type 0 where
 -- What is still to be written. `to_head`: the message answers HEAD. The items are those of a cleaned message.
 abbrev pub owed : Bool → Duty → List Item → Output
 owed to_head at_start [] = []
-owed to_head at_start ((interim_response status fields) ∷ q) = plain (interim_text (record { status = status; fields = fields })) ++ owed to_head at_start q
+owed to_head at_start ((interim_response status fields) ∷ q) =
+    plain (interim_text (record { status = status; fields = fields })) ++ owed to_head at_start q
 owed to_head at_start ((head of fields) ∷ q) =
-    final_out (is_chunked (framing_written to_head (message_of of fields q))) (head_front (start_of of) fields) (content_of q) (trailers_of q)
+    final_out (is_chunked (framing_written to_head (message_of of fields q))) (head_front (start_of of) fields) (content_of q)
+    (trailers_of q)
 owed to_head at_start ((content_byte x) ∷ q) = []
 owed to_head at_start ((trailer_section fields) ∷ q) = []
 owed to_head at_start ((ending omitted padding) ∷ q) = []

@@ -30,7 +30,8 @@ before_all to_head target_room head_room = record { to_head = to_head; duty = at
 
 -- a writer within some limits: it has room for each target and each head that keep them
 abbrev pub IsAtStart : Bounds → Bool → Writing → Type 0
-IsAtStart L to_head v = (part section : ℕ) × (L.part ≡ Some part) × (L.section ≡ Some section) × (v ≡ before_all to_head (3 * part + 3) (5 * part + 2 * section + 54))
+IsAtStart L to_head v = (part section : ℕ) × (L.part ≡ Some part) × (L.section ≡ Some section)
+    × (v ≡ before_all to_head (3 * part + 3) (5 * part + 2 * section + 54))
 
 -- ---- which items may come
 
@@ -79,7 +80,8 @@ IsBehindHead all_done = ⊥
 
 -- the head that is written, up to a line that says that chunks follow
 abbrev pub head_of : Start → List Field → heads.Head
-head_of (request control) fields = record { start = request_line control.method (target_text control); fields = host_lines control ++ fields }
+head_of (request control) fields =
+    record { start = request_line control.method (target_text control); fields = host_lines control ++ fields }
 head_of (response interims status) fields = record { start = status_line status; fields = fields }
 
 -- what is still to be written, and how many bytes of content are held

@@ -118,7 +118,8 @@ fn send_held<S: Sink>(
 ) -> Result<(), Failed>
     requires room { length (head_end true) < head.old.room }
     requires trailers { All IsHeadField trailers.now.lines }
-    ensures sends { SendsRest S.write_step true (final_out (has_body [] trailers.now.lines) head.old.bytes [] trailers.now.lines) sink.old result sink.new }
+    ensures sends { SendsRest S.write_step true (final_out (has_body [] trailers.now.lines) head.old.bytes [] trailers.now.lines)
+        sink.old result sink.new }
     ensures room { room_of head.new ≡ room_of head.old }
 {
     if trailers.is_empty() {

@@ -35,8 +35,8 @@ pub(crate) fn is_chunked(to_head: bool, status: u16, fields: &Fields) -> bool
     !is_bodyless(to_head, status) && !has_length(fields)
 }
 
-/// Whether a response has no body, whatever its fields say: where it answers HEAD, or with a status of 204 or 304 (RFC 9110, sections 9.3.2,
-/// 15.3.5 and 15.4.5).
+/// Whether a response has no body, whatever its fields say: where it answers HEAD, or with a status of 204 or 304 (RFC 9110, sections
+/// 9.3.2, 15.3.5 and 15.4.5).
 fn is_bodyless(to_head: bool, status: u16) -> bool
     ensures { result ≡ has_none to_head status }
 {
@@ -83,7 +83,8 @@ pub(crate) fn send_request<S: Sink>(
 ) -> Result<(), Failed>
     requires target { target.now ≡ target_text (control_lent control) }
     requires writable { IsWritable (head_of (request (control_lent control)) fields.now.lines) }
-    ensures { Writes S.write_step sink.old (head_front (request (control_lent control.entry)) fields.now.lines ++ head_end false) result sink.new }
+    ensures { Writes S.write_step sink.old (head_front (request (control_lent control.entry)) fields.now.lines ++ head_end false)
+        result sink.new }
 {
     write_request_head(
         sink,

@@ -16,7 +16,8 @@ fn send_head<S: Sink>(
     sink: &mut S,
     decoder: &Judged,
 ) -> Result<(), Failed>
-    requires { (of : Head) × (raw : List Field) × IsHead decoder.now of raw × ((q : List Item) × takes writer.old (head of decoder.now.cleaned ∷ q)) }
+    requires { (of : Head) × (raw : List Field) × IsHead decoder.now of raw
+        × ((q : List Item) × takes writer.old (head of decoder.now.cleaned ∷ q)) }
     ensures { (of : Head) (raw : List Field) → IsHead decoder.now of raw
         → JobSends S.write_step writer.old writer.new (head of decoder.now.cleaned ∷ []) sink.old result sink.new }
 {

@@ -1,8 +1,32 @@
 //! Messages over a sink in memory.
+ghost use Rattle.std.specs.Prelude.{◌≡◌, ◌≤◌, IfOk};
+ghost use Rattle.h1_text.specs.Owed.{at_start};
+ghost use Rattle.h1_text.specs.Writers.{IsBehindHead};
+
 use super::Http1Writer;
 use bh_base::{MemSink, NoMemory};
 use bh_model::{ControlView, Fields, Limits};
 use std::alloc::Global;
+
+/// A writer before a message.
+fn start(alloc: Global, to_head: bool) -> Result<Http1Writer, NoMemory>
+    ensures start { IfOk result (λ writer. writer.duty ≡ at_start) }
+    ensures target { IfOk result (λ writer. 100 ≤ writer.target_room) }
+    ensures head { IfOk result (λ writer. 100 ≤ writer.head_room) }
+{
+    Http1Writer::new(alloc, &Limits::default(), to_head)
+}
+
+/// Sends content, if there is any.
+fn put(writer: &mut Http1Writer, sink: &mut MemSink, content: &[u8]) -> bool
+    requires place { IsBehindHead writer.old.duty }
+    ensures place { IsBehindHead writer.new.duty }
+{
+    if content.is_empty() || content.len() > 8192 {
+        return content.is_empty();
+    }
+    writer.content(sink, content).is_ok()
+}
 
 /// What is sent of a response behind an interim response, without lines and with an empty trailer section. Empty: a write failed.
 fn response(
@@ -13,8 +37,8 @@ fn response(
 ) -> Result<Vec<u8>, NoMemory> {
     let none = Fields::with_room(alloc, 0, 0)?;
     let mut sink = MemSink::new(alloc, Vec::new(alloc), 9000)?;
-    let mut writer = Http1Writer::new(alloc, &Limits::default(), to_head)?;
-    if status < 200 || status > 599 || content.len() > 8192 {
+    let mut writer = start(alloc, to_head)?;
+    if status < 200 || status > 599 {
         return Ok(Vec::new(alloc));
     }
     if writer.interim(&mut sink, 103, &none).is_err() {
@@ -23,16 +47,13 @@ fn response(
     if writer.response_head(&mut sink, status, &none).is_err() {
         return Ok(Vec::new(alloc));
     }
-    if !content.is_empty() && writer.content(&mut sink, content).is_err() {
-        return Ok(Vec::new(alloc));
-    }
-    if writer.trailers(&mut sink, &none).is_err() {
+    if !put(&mut writer, &mut sink, content) || writer.trailers(&mut sink, &none).is_err() {
         return Ok(Vec::new(alloc));
     }
     Ok(sink.sent().to_vec(alloc)?)
 }
 
-/// What is sent of a request without lines and without a trailer section, before its content and with it. Empty: a write failed.
+/// What is sent of a request without lines and without a trailer section, with its head and in all. Empty: a write failed.
 fn request(alloc: Global, content: &[u8]) -> Result<(Vec<u8>, Vec<u8>), NoMemory> {
     let none = Fields::with_room(alloc, 0, 0)?;
     let control = ControlView {
@@ -42,15 +63,12 @@ fn request(alloc: Global, content: &[u8]) -> Result<(Vec<u8>, Vec<u8>), NoMemory
         path: b"/a",
     };
     let mut sink = MemSink::new(alloc, Vec::new(alloc), 9000)?;
-    let mut writer = Http1Writer::new(alloc, &Limits::default(), false)?;
-    if content.len() > 8192 || writer.request_head(&mut sink, control, &none).is_err() {
+    let mut writer = start(alloc, false)?;
+    if writer.request_head(&mut sink, control, &none).is_err() {
         return Ok((Vec::new(alloc), Vec::new(alloc)));
     }
     let before = sink.sent().to_vec(alloc)?;
-    if !content.is_empty() && writer.content(&mut sink, content).is_err() {
-        return Ok((Vec::new(alloc), Vec::new(alloc)));
-    }
-    if writer.finish(&mut sink).is_err() {
+    if !put(&mut writer, &mut sink, content) || writer.finish(&mut sink).is_err() {
         return Ok((Vec::new(alloc), Vec::new(alloc)));
     }
     let all = sink.sent().to_vec(alloc)?;

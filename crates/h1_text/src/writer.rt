@@ -53,9 +53,9 @@ impl Model for Http1Writer {
 }
 
 impl Http1Writer {
-    /// A writer before a message, with all the memory that it needs within the limits: 8 parts, 2 sections and a chunk. The target of a
-    /// request has at most 3 parts and `://`. Its head has a method, a target and a host line, so 5 parts; of the cleaned lines, each of which
-    /// takes at most twice the bytes that it took of a section, 2 sections; and 54 bytes between and behind them.
+    /// A writer before a message, with all the memory that it needs within the limits: 8 parts, 2 sections, a chunk, and 65 bytes. The
+    /// target of a request has at most 3 parts and `://`. Its head has a method, a target and a host line, so 5 parts; of the cleaned
+    /// lines, each of which takes at most twice the bytes that it took of a section, 2 sections; and 54 bytes between and behind them.
     pub fn new(alloc: Global, limits: &Limits, to_head: bool) -> Result<Http1Writer, NoMemory>
         ensures { IfOk result (λ writer. IsAtStart limits.now to_head writer) }
     {
@@ -128,7 +128,8 @@ impl Http1Writer {
         requires writable { IsWritable (head_of (request (control_lent control)) fields.now.lines) }
         requires room { HasRoom self.old (of_request (control_lent control)) fields.now.lines }
         ensures next { IsBehindHead self.new.duty }
-        ensures sends { JobSends S.write_step self.old self.new (head (of_request (control_lent control.entry)) fields.now.lines ∷ []) sink.old result sink.new }
+        ensures sends { JobSends S.write_step self.old self.new (head (of_request (control_lent control.entry)) fields.now.lines ∷ [])
+            sink.old result sink.new }
     {
         put_target(&mut self.target, control);
         if has_length(fields) {
