@@ -1,6 +1,7 @@
 -- The judgement of the decoder, item by item, is that of the moments of the items.
 use Rattle.std.proofs.Common.{◌≡◌, ◌⊎◌, ◌+◌, arith, ℕ, Bool, List, [], ◌∷◌, ◌++◌, flat_map, Option, Some, None, refl, sym, ap, ap₂, subst, ◌∙◌, append-nil, inl, inr}
-use Rattle.bh_spec.specs.declared.Omitted.TheVariants.{Nothing}
+use Rattle.bh_spec.specs.declared.Omitted.{Omitted}
+use Rattle.bh_spec.specs.declared.Omitted.TheVariants.{Nothing, Trailers, Both}
 use Rattle.bh_spec.specs.Bounds.{Bounds}
 use Rattle.bh_spec.specs.Messages.{Field, Interim, Start}
 use Rattle.bh_spec.specs.Items.{Item, interim_response, head, content_byte, trailer_section, ending, Head, of_request, of_response}
@@ -8,8 +9,8 @@ use Rattle.bh_reading.specs.Coming.{TailComes, MessageComes}
 use Rattle.h1_spec.specs.declared.Framing1.{Framing1}
 use Rattle.h1_spec.specs.declared.Framing1.TheVariants.{Empty, Counted, Chunked, ToEnd}
 use Rattle.h1_spec.specs.Cleaning.{hops, clean_trailers}
-use Rattle.h1_spec.specs.Http1Text.{Case, of_head}
-use Rattle.h1_spec.specs.Moments.{announced, of_byte, of_trailers, alone, cases_at}
+use Rattle.h1_spec.specs.Http1Text.{Case, of_interim, of_head}
+use Rattle.h1_spec.specs.Moments.{announced, of_byte, of_trailers, of_end, alone, cases_at}
 use Rattle.h1_spec.proofs.Cases.{AreFree, none_free, free_append}
 use Rattle.h1_moments.specs.Seen.{Seen, interims_seen, head_seen, start_with, see, seen_behind, moments_of, moments_in}
 use Rattle.h1_judge.specs.Courses.{Course, start_of, behind_item, behind, item_cases, AreFree as Free}
@@ -138,3 +139,110 @@ module _ (to_head : Bool) (L : Bounds) where
   items_free c begun interims ((content_byte x) ∷ i) q some comes free = absurd comes
   items_free c begun interims ((trailer_section fields) ∷ i) q some comes free = absurd comes
   items_free c begun interims ((ending omitted padding) ∷ i) q some comes free = absurd comes
+
+-- ---- the rules of one item behind others
+
+-- the cases of an item's moment
+abbrev pub cases_with : Bool → Seen → List Item → Item → List Case
+cases_with to_head seen i item = flat_map (cases_at to_head) (moments_of (seen_behind seen i) item)
+
+-- it isn't the ending
+abbrev pub IsThing : Item → Type 0
+IsThing (interim_response status fields) = Unit {0}
+IsThing (head of fields) = Unit {0}
+IsThing (content_byte x) = Unit {0}
+IsThing (trailer_section fields) = Unit {0}
+IsThing (ending omitted padding) = ⊥
+
+end_cases : (to_head : Bool) (c : Course) (start : Start) (fields : List Field) (n : ℕ) → Matches to_head c start fields n
+    → of_end c.framing c.counted ≡ of_end (announced to_head start fields) n
+end_cases to_head c start fields n h = same c.framing h.counted ∙ ap (λ (f : Framing1). of_end f n) h.framing
+  where
+    same : (f : Framing1) → IsCount f c.counted n → of_end f c.counted ≡ of_end f n
+    same Empty e = refl
+    same (Counted field) e = ap (of_end (Counted field)) e
+    same Chunked e = refl
+    same ToEnd e = refl
+
+-- behind the trailer section nothing but the ending comes
+only_ending : (i : List Item) (item : Item) (q : List Item) (z : ℕ) → IsThing item → i ++ item ∷ q ≡ ending Nothing z ∷ [] → ⊥
+only_ending [] (interim_response status fields) q z thing e = cc
+only_ending [] (head of fields) q z thing e = cc
+only_ending [] (content_byte x) q z thing e = cc
+only_ending [] (trailer_section fields) q z thing e = cc
+only_ending [] (ending omitted padding) q z thing e = thing
+only_ending (x ∷ i) item q z thing e = let tail : i ++ item ∷ q ≡ [] = cc in no_items i tail
+  where
+    no_items : (i : List Item) → i ++ item ∷ q ≡ [] → ⊥
+    no_items [] e = cc
+    no_items (y ∷ i) e = cc
+
+no_more : (i : List Item) (item : Item) (q : List Item) → i ++ item ∷ q ≡ [] → ⊥
+no_more [] item q e = cc
+no_more (y ∷ i) item q e = cc
+
+last_ending : (i : List Item) (o : Omitted) (z y : ℕ) → (o ≡ Nothing → ⊥) → i ++ ending o z ∷ [] ≡ ending Nothing y ∷ [] → ⊥
+last_ending [] o z y some e = some cc
+last_ending (x ∷ i) o z y some e = let tail : i ++ ending o z ∷ [] ≡ [] = cc in no_more i (ending o z) [] tail
+
+module _ (to_head : Bool) (L : Bounds) where
+  tail_with : (c : Course) (start : Start) (fields : List Field) (n : ℕ) (i : List Item) (item : Item) (q : List Item) → Matches to_head c start fields n → IsThing item → TailComes L (i ++ item ∷ q)
+      → cases_with to_head (head_seen start fields n) i item ≡ item_cases (behind to_head c i) item
+  tail_with c start fields n [] (interim_response status more) q m thing comes = absurd comes
+  tail_with c start fields n [] (head of more) q m thing comes = absurd comes
+  tail_with c start fields n [] (content_byte x) q m thing comes = append-nil (of_byte (announced to_head start fields) (n + 1)) ∙ sym (byte_cases to_head c start fields n m)
+  tail_with c start fields n [] (trailer_section trailers) q m thing comes =
+      append-nil (of_trailers (announced to_head start fields) n (clean_trailers (hops fields) trailers)) ∙ sym (trailer_cases to_head c start fields trailers n m)
+  tail_with c start fields n [] (ending omitted padding) q m thing comes = absurd thing
+  tail_with c start fields n ((interim_response status more) ∷ i) item q m thing comes = absurd comes
+  tail_with c start fields n ((head of more) ∷ i) item q m thing comes = absurd comes
+  tail_with c start fields n ((content_byte x) ∷ i) item q m thing comes = tail_with (behind_item to_head c (content_byte x)) start fields (n + 1) i item q (match_on to_head c start fields n x m) thing comes
+  tail_with c start fields n ((trailer_section trailers) ∷ i) item q m thing comes = absurd (only_ending i item q comes.1.0 thing comes.1.1)
+  tail_with c start fields n ((ending omitted padding) ∷ i) item q m thing comes = absurd (no_more i item q comes.1)
+
+  tail_end : (c : Course) (start : Start) (fields : List Field) (n : ℕ) (i : List Item) (o : Omitted) (z : ℕ) → Matches to_head c start fields n → (o ≡ Nothing → ⊥) → TailComes L (i ++ ending o z ∷ [])
+      → cases_with to_head (head_seen start fields n) i (ending o z) ≡ of_end (behind to_head c i).framing (behind to_head c i).counted
+  tail_end c start fields n [] Nothing z m some comes = absurd (some refl)
+  tail_end c start fields n [] Trailers z m some comes = append-nil (of_end (announced to_head start fields) n) ∙ sym (end_cases to_head c start fields n m)
+  tail_end c start fields n [] Both z m some comes = append-nil (of_end (announced to_head start fields) n) ∙ sym (end_cases to_head c start fields n m)
+  tail_end c start fields n ((interim_response status more) ∷ i) o z m some comes = absurd comes
+  tail_end c start fields n ((head of more) ∷ i) o z m some comes = absurd comes
+  tail_end c start fields n ((content_byte x) ∷ i) o z m some comes = tail_end (behind_item to_head c (content_byte x)) start fields (n + 1) i o z (match_on to_head c start fields n x m) some comes
+  tail_end c start fields n ((trailer_section trailers) ∷ i) o z m some comes = absurd (last_ending i o z comes.1.0 some comes.1.1)
+  tail_end c start fields n ((ending omitted padding) ∷ i) o z m some comes = absurd (no_more i (ending o z) [] comes.1)
+
+  -- the rules that the decoder looks at with an item are those of its moment
+  pub item_with : (c : Course) (begun : Bool) (interims : List Interim) (i : List Item) (item : Item) (q : List Item) → IsThing item → MessageComes L begun (i ++ item ∷ q)
+      → cases_with to_head (interims_seen interims) i item ≡ item_cases (behind to_head c i) item
+  item_with c begun interims [] (interim_response status fields) q thing comes = append-nil (of_interim (record { status = status; fields = fields }))
+  item_with c begun interims [] (head of fields) q thing comes = append-nil (of_head (alone (start_with interims of)) fields) ∙ sym (head_cases to_head interims of fields)
+  item_with c begun interims [] (content_byte x) q thing comes = absurd comes
+  item_with c begun interims [] (trailer_section fields) q thing comes = absurd comes
+  item_with c begun interims [] (ending omitted padding) q thing comes = absurd comes
+  item_with c begun interims ((interim_response status fields) ∷ i) item q thing comes =
+      item_with (behind_item to_head c (interim_response status fields)) Bool.true (interims ++ record { status = status; fields = fields } ∷ []) i item q thing comes.1
+  item_with c begun interims ((head of fields) ∷ i) item q thing comes =
+      tail_with (behind_item to_head c (head of fields)) (start_with interims of) fields 0 i item q (match_head to_head c interims of fields) thing comes.1
+  item_with c begun interims ((content_byte x) ∷ i) item q thing comes = absurd comes
+  item_with c begun interims ((trailer_section fields) ∷ i) item q thing comes = absurd comes
+  item_with c begun interims ((ending omitted padding) ∷ i) item q thing comes = absurd comes
+
+  -- so are those of an end behind which no trailer section came
+  pub end_with : (c : Course) (begun : Bool) (interims : List Interim) (i : List Item) (o : Omitted) (z : ℕ) → (o ≡ Nothing → ⊥) → MessageComes L begun (i ++ ending o z ∷ [])
+      → cases_with to_head (interims_seen interims) i (ending o z) ≡ of_end (behind to_head c i).framing (behind to_head c i).counted
+  end_with c begun interims [] o z some comes = absurd comes
+  end_with c begun interims ((interim_response status fields) ∷ i) o z some comes =
+      end_with (behind_item to_head c (interim_response status fields)) Bool.true (interims ++ record { status = status; fields = fields } ∷ []) i o z some comes.1
+  end_with c begun interims ((head of fields) ∷ i) o z some comes =
+      tail_end (behind_item to_head c (head of fields)) (start_with interims of) fields 0 i o z (match_head to_head c interims of fields) some comes.1
+  end_with c begun interims ((content_byte x) ∷ i) o z some comes = absurd comes
+  end_with c begun interims ((trailer_section fields) ∷ i) o z some comes = absurd comes
+  end_with c begun interims ((ending omitted padding) ∷ i) o z some comes = absurd comes
+
+  -- where the trailer section isn't left out, no rule is left for the end
+  pub end_nothing : (seen : Seen) (i : List Item) (z : ℕ) → cases_with to_head seen i (ending Nothing z) ≡ []
+  end_nothing seen i z = by_seen (seen_behind seen i)
+    where
+      by_seen : (seen : Seen) → flat_map (cases_at to_head) (moments_of seen (ending Nothing z)) ≡ []
+      by_seen (interims_seen interims) = refl
+      by_seen (head_seen start fields n) = refl

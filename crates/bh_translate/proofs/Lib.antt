@@ -2,3 +2,4 @@ pub mod Left
 pub mod Joining
 pub mod Starting
 pub mod IntoEnding
+pub mod IntoFacts

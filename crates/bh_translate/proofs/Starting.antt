@@ -52,7 +52,7 @@ pub items_cleaned : (named : List (List ℕ)) (m : Message) (o : Omitted) (z : �
 items_cleaned named m o z = message_cleaned named m.start m.fields m.content m.trailers o z
 
 -- what a cleaned message leaves out is empty
-leaves_clean : (m : Message) (o : Omitted) → LeavesOut m o → LeavesOut (clean_message m) o
+pub leaves_clean : (m : Message) (o : Omitted) → LeavesOut m o → LeavesOut (clean_message m) o
 leaves_clean m Nothing h = tt
 leaves_clean m Trailers h = ap (clean_trailers (hops m.fields)) h
 leaves_clean m Both h = (h.0, ap (clean_trailers (hops m.fields)) h.1)

@@ -1,5 +1,5 @@
 -- How a translation to HTTP/1.1 ended, by the calls of its port.
-use Rattle.std.specs.Prelude.{◌≡◌, ◌⊎◌, ℕ, Bool, true, List, ◌++◌, length, None}
+use Rattle.std.specs.Prelude.{◌≡◌, ◌⊎◌, ℕ, Bool, true, List, ◌++◌, length, Option, None}
 use Rattle.bh_spec.specs.declared.NoForm.{NoForm}
 use Rattle.bh_spec.specs.declared.Omitted.{Omitted}
 use Rattle.bh_spec.specs.declared.Refusal.{Refusal}
@@ -8,9 +8,10 @@ use Rattle.bh_spec.specs.declared.Summary.{Summary}
 use Rattle.bh_spec.specs.Bounds.{Bounds}
 use Rattle.bh_spec.specs.Messages.{Message}
 use Rattle.bh_spec.specs.Reports.{summary}
-use Rattle.bh_base.specs.Steps.{Step, taken, given, met, IsQuiet, StopsAt, is_bad_read, is_bad_write}
-use Rattle.bh_stream.specs.Logs.{ReadsTo}
-use Rattle.bh_stream.specs.Messages.{GivesFronts}
+use Rattle.bh_base.specs.Steps.{Step, Entry, Meanings, taken, given, met, IsQuiet, StopsAt, is_bad_read, is_bad_write}
+use Rattle.bh_stream.specs.Logs.{ReadsTo, GivesFront}
+use Rattle.bh_stream.specs.Messages.{IsTextOf, GivesFronts}
+use Rattle.bh_stream.specs.Telling.{TellsOf, CompletesAs, CountsAs, AtEveryEntry, IsLogged}
 use Rattle.bh_stream.specs.Calls.{PortCall}
 use Rattle.bh_stream.specs.declared.streaming.End.{End}
 use Rattle.bh_stream.specs.declared.streaming.End.TheVariants as end
@@ -21,6 +22,8 @@ use Rattle.h1_spec.specs.Translation.{IntoAnswer, formed, dead, formless, IsInto
 use Rattle.h1_text.specs.Owed.{text_sent}
 use Rattle.h1_judge.specs.declared.judged.IntoWhy.{IntoWhy}
 use Rattle.h1_judge.specs.declared.judged.IntoWhy.TheVariants.{Binary, Form}
+use Rattle.bh_translate.specs.declared.into.IntoEnd.{IntoEnd}
+use Rattle.bh_translate.specs.declared.into.IntoEnd.TheVariants as ends
 
 -- What is written of a message: its text; and where its head says that there is no body, its content behind that. No message with an
 -- HTTP/1.1 form has such content.
@@ -86,3 +89,42 @@ abbrev pub into_end_of : IntoAnswer → ℕ → End Summary IntoWhy
 into_end_of (formed m omitted padding) bytes = end.Done (summary m omitted padding bytes)
 into_end_of (dead r) bytes = end.Refused (Binary r)
 into_end_of (formless form) bytes = end.Refused (Form form)
+
+-- What a port that tells what is left tells of a call: the end is right for its input, and what was sent begins what is written of the
+-- message that the input is.
+abbrev pub IntoTold : Bounds → Bool → {S : Type 0} → Meanings S → S → End Summary IntoWhy → S → Type 0
+IntoTold L to_head port s r t = TellsOf (IsTextOf L) (sent_text to_head) L.input (IsRightInto L to_head) port s r t
+
+-- Whatever the answer for the input is, the call ended with it where no fault was counted.
+abbrev pub IntoCompletes : Bounds → Bool → {S : Type 0} → Meanings S → S → End Summary IntoWhy → S → Type 0
+IntoCompletes L to_head port s r t = CompletesAs (IsIntoAnswer L to_head) into_end_of port s r t
+
+-- At every point of the log what was given begins what is written of every message that continues what was taken.
+abbrev pub IntoLog : Bounds → Bool → List Entry → Type 0
+IntoLog L to_head log = AtEveryEntry (GivesFront (IsTextOf L) (sent_text to_head) L.input) log
+
+-- all that is said of a call over a port
+pub record IntoFacts (L : Bounds) (to_head : Bool) {S : Type 0} (read write : S → Step → S → Type 0) (port : Meanings S)
+    (log : S → Option (List Entry)) (s : S) (r : End Summary IntoWhy) (t : S) : Type 0 where
+  pub call : IntoCall L to_head read write s r t
+  pub told : IntoTold L to_head port s r t
+  pub complete : IntoCompletes L to_head port s r t
+  pub logged : IsLogged (IntoLog L to_head) (log s) (log t)
+  pub counts : CountsAs port s r t
+
+-- The end of the translator is that of a call that ended so, of which this holds; or memory ran out, and nothing was called.
+abbrev pub IntoSo : IntoEnd → (uncalled : Type 0) → (End Summary IntoWhy → Type 0) → Type 0
+IntoSo (ends.Done s) uncalled P = P (end.Done s)
+IntoSo (ends.Refused r) uncalled P = P (end.Refused (Binary r))
+IntoSo (ends.Untranslatable form) uncalled P = P (end.Refused (Form form))
+IntoSo ends.ReadFault uncalled P = P end.ReadFault
+IntoSo ends.WriteFault uncalled P = P end.WriteFault
+IntoSo ends.NoMemory uncalled P = uncalled
+
+-- the end of the translator for one of the loop
+abbrev pub into_end : End Summary IntoWhy → IntoEnd
+into_end (end.Done s) = ends.Done s
+into_end (end.Refused (Binary r)) = ends.Refused r
+into_end (end.Refused (Form form)) = ends.Untranslatable form
+into_end end.ReadFault = ends.ReadFault
+into_end end.WriteFault = ends.WriteFault

@@ -1,6 +1,8 @@
 //! The two translators: messages of Binary HTTP to HTTP/1.1, and back.
 #![tactic(auto)]
 
+mod into;
 mod laws;
 
+pub use into::{IntoEnd, to_http1};
 pub use laws::the_text_is_sent;

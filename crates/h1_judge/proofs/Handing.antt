@@ -143,6 +143,7 @@ module _ (c d : Counted) (j k : Judge) (ready : IsReady (view_of c j)) where
       let items : map content_byte bytes ≡ map content_byte h.front ++ content_byte h.last ∷ []
           = ap (map content_byte) h.split ∙ map-append content_byte h.front (h.last ∷ []) in
       refused_here piece n form (record {
+        some = omega (arith, took.some, length-take-le n piece took.inside);
         raw = map content_byte h.front;
         last = content_byte h.last;
         state = d;
@@ -175,6 +176,7 @@ module _ (c d : Counted) (j k : Judge) (ready : IsReady (view_of c j)) where
       → Judges j item (Some form) k → IsRefused v piece (why.Form form)
   event_judged piece n event item form took shown right prompt h =
       refused_here piece n form (record {
+        some = omega (arith, took.some, length-take-le n piece took.inside);
         raw = [];
         last = item;
         state = d;

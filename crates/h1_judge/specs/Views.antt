@@ -1,5 +1,5 @@
 -- The decoder that judges, as the loop over a port sees it. It hands out the items of the cleaned message.
-use Rattle.std.specs.Prelude.{ℕ, ◌≡◌, Bool, false, Option, Some, None, List, [], ◌∷◌, ◌++◌, ◌+◌, length}
+use Rattle.std.specs.Prelude.{ℕ, ◌≡◌, Bool, false, Option, Some, None, List, [], ◌∷◌, ◌++◌, ◌+◌, ◌<◌, length}
 use Rattle.bh_spec.specs.declared.Omitted.{Omitted}
 use Rattle.bh_spec.specs.declared.Omitted.TheVariants.{Nothing}
 use Rattle.bh_spec.specs.declared.NoForm.{NoForm}
@@ -113,6 +113,7 @@ AreContent bytes raw (ending omitted padding) = Unit {0}
 
 -- With the last of the bytes an item comes for which a rule holds, and none does for those before it. This is the first rule that does.
 pub record IsJudged (v : JudgedView) (bytes : List ℕ) (form : NoForm) : Type 0 where
+  pub some : 0 < length bytes
   pub raw : List Item
   pub last : Item
   pub state : Counted

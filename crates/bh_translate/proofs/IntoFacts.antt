@@ -1,0 +1,101 @@
+-- All that is said of a translation to HTTP/1.1, by what the loop did.
+use Rattle.std.proofs.Common.{◌≡◌, ◌⊎◌, ℕ, Bool, true, List, [], ◌++◌, length, Option, Some, None, refl, sym, ap, subst, ◌∙◌, append-nil, inl, inr}
+use Rattle.std.specs.Io.KnownBytes.{IsAtEnd}
+use Rattle.bh_spec.specs.declared.Refusal.TheVariants.{Dead, Limit, Ended, TooLong}
+use Rattle.bh_spec.specs.declared.Summary.{Summary}
+use Rattle.bh_spec.specs.Bounds.{Bounds}
+use Rattle.bh_spec.specs.Reports.{summary}
+use Rattle.bh_base.specs.Steps.{Step, Entry, Meanings, taken, given, met, ReadFacts, WriteFacts, ReadLeaves, WriteLeaves}
+use Rattle.bh_model.specs.Ranges.{AreLimits}
+use Rattle.bh_stream.specs.Logs.{GivesFront}
+use Rattle.bh_stream.specs.Messages.{IsTextOf}
+use Rattle.bh_stream.specs.Runs.{Streams}
+use Rattle.bh_stream.specs.Telling.{EndStops}
+use Rattle.bh_stream.specs.declared.streaming.End.{End}
+use Rattle.bh_stream.specs.declared.streaming.End.TheVariants as end
+use Rattle.bh_stream.proofs.Calls.{port_call}
+use Rattle.bh_stream.proofs.Formats.{gives_always}
+use Rattle.bh_stream.proofs.Messages.{gives_messages}
+use Rattle.bh_stream.proofs.Telling.{front_alike, at_entries, logged_as, facts, counted_as, tells_of, completes_as}
+use Rattle.h1_spec.specs.Translation.{IntoAnswer, formed, dead, formless, IsIntoAnswer}
+use Rattle.h1_spec.proofs.Answering.{one_into}
+use Rattle.h1_judge.specs.declared.judged.IntoWhy.{IntoWhy}
+use Rattle.h1_judge.specs.declared.judged.IntoWhy.TheVariants.{Binary, Form}
+use Rattle.h1_judge.specs.Views.{JudgedView, Moved, rest, room, IsAtStart, IsRefused, Tells, misses}
+use Rattle.h1_judge.specs.JudgedLaws.{judged_laws}
+use Rattle.h1_text.specs.Owed.{at_start, owed}
+use Rattle.h1_moments.specs.Laws.{JudgedThere, RefusedWhereFree, MissedWhereFree, FinishedWhereFree}
+use Rattle.bh_translate.specs.Into.{sent_text, IntoEnds, IsRightInto, into_end_of, IntoFacts}
+use Rattle.bh_translate.proofs.Starting.{knows_clean}
+use Rattle.bh_translate.proofs.IntoEnding.{ended_in}
+
+stops : (L : Bounds) (to_head : Bool) (r : End Summary IntoWhy) (steps : List Step) → IntoEnds L to_head r steps → EndStops r steps
+stops L to_head (end.Done s) steps h = h.0
+stops L to_head (end.Refused (Binary r)) steps h = h.0
+stops L to_head (end.Refused (Form form)) steps h = h.0
+stops L to_head end.ReadFault steps h = h
+stops L to_head end.WriteFault steps h = h
+
+-- the end is right for every input that begins with what was taken
+right : (L : Bounds) (to_head : Bool) (r : End Summary IntoWhy) (steps : List Step) (more : List ℕ) → (met steps ≡ true → more ≡ []) → IntoEnds L to_head r steps
+    → IsRightInto L to_head r (taken steps ++ more) (given steps)
+right L to_head (end.Done s) steps more none h =
+    let w = h.1 in
+    let same : taken steps ≡ taken steps ++ more = sym (ap (λ (l : List ℕ). taken steps ++ l) (none w.end) ∙ append-nil (taken steps)) in (
+      w.message,
+      w.omitted,
+      w.padding,
+      subst (λ (l : List ℕ). IsIntoAnswer L to_head l (formed w.message w.omitted w.padding)) same w.answer,
+      subst (λ (l : List ℕ). s ≡ summary w.message w.omitted w.padding (length l)) same w.summary_is,
+      w.gave,
+    )
+right L to_head (end.Refused (Binary (Dead at part))) steps more none h = h.1.1 more
+right L to_head (end.Refused (Binary (Limit at part))) steps more none h = h.1.1 more
+right L to_head (end.Refused (Binary (TooLong at))) steps more none h = h.1.1 more
+right L to_head (end.Refused (Binary (Ended at part))) steps more none h =
+    subst (λ (l : List ℕ). IsIntoAnswer L to_head l (dead (Ended at part))) (sym (ap (λ (l : List ℕ). taken steps ++ l) (none h.1.0) ∙ append-nil (taken steps))) h.1.1
+right L to_head (end.Refused (Form form)) steps more none h = by_place h.1
+  where
+    by_place : _ ⊎ ((met steps ≡ true) × IsIntoAnswer L to_head (taken steps) (formless form)) → IsIntoAnswer L to_head (taken steps ++ more) (formless form)
+    by_place (inl j) = inl (j.0, j.2 more)
+    by_place (inr e) = subst (λ (l : List ℕ). IsIntoAnswer L to_head l (formless form)) (sym (ap (λ (l : List ℕ). taken steps ++ l) (none e.0) ∙ append-nil (taken steps))) e.1
+right L to_head end.ReadFault steps more none h = tt
+right L to_head end.WriteFault steps more none h = tt
+
+done : (L : Bounds) (to_head : Bool) (s : Summary) (steps : List Step) → IntoEnds L to_head (end.Done s) steps → met steps ≡ true
+done L to_head s steps h = h.1.end
+
+-- one end is right
+one : (L : Bounds) (to_head : Bool) (r : End Summary IntoWhy) (answer : IntoAnswer) (input out : List ℕ) → IsIntoAnswer L to_head input answer → IsRightInto L to_head r input out
+    → (r ≡ end.ReadFault → ⊥) → (r ≡ end.WriteFault → ⊥) → r ≡ into_end_of answer (length input)
+one L to_head (end.Done s) answer input out is h no_read no_write =
+    ap end.Done h.4 ∙ ap (λ (a : IntoAnswer). into_end_of a (length input)) (one_into L to_head input (formed h.0 h.1 h.2) answer h.3 is)
+one L to_head (end.Refused (Binary r)) answer input out is h no_read no_write = ap (λ (a : IntoAnswer). into_end_of a (length input)) (one_into L to_head input (dead r) answer h is)
+one L to_head (end.Refused (Form form)) answer input out is h no_read no_write = ap (λ (a : IntoAnswer). into_end_of a (length input)) (one_into L to_head input (formless form) answer h is)
+one L to_head end.ReadFault answer input out is h no_read no_write = absurd (no_read refl)
+one L to_head end.WriteFault answer input out is h no_read no_write = absurd (no_write refl)
+
+module _ (judged_law : JudgedThere) (refused_law : RefusedWhereFree) (missed_law : MissedWhereFree) (finished_law : FinishedWhereFree)
+    (L : Bounds) (limits : AreLimits L) (to_head : Bool) (v : JudgedView) (start : IsAtStart L to_head v)
+    {S : Type 0} {read write : S → Step → S → Type 0} {left sent : S → Option (List ℕ)} {read_faults write_faults : S → ℕ} {ended : S → Bool} {log : S → Option (List Entry)}
+    (read_law : (s t : S) (x : Step) → read s x t → ReadFacts left read_faults ended s x t)
+    (ended_law : (s : S) → ended s ≡ true → IsAtEnd (left s))
+    (write_law : (s t : S) (x : Step) → write s x t → WriteFacts sent write_faults s x t)
+    (read_leaves : (s t : S) (x : Step) → read s x t → ReadLeaves sent write_faults log s x t)
+    (write_leaves : (s t : S) (x : Step) → write s x t → WriteLeaves left read_faults ended log s x t) where
+  pub into_facts : (s t : S) (r : End Summary IntoWhy) → Streams rest room Moved IsRefused Tells misses true 8191 read write v (owed to_head at_start) s r t
+      → IntoFacts L to_head read write (record { left = left; sent = sent; read_faults = read_faults; write_faults = write_faults }) log s r t
+  into_facts s t r h =
+      let knows = knows_clean L limits to_head v start in
+      let call = port_call (IntoEnds L to_head) knows.limit_is h (gives_messages L (sent_text to_head) h.steps (gives_always knows judged_laws h))
+      (ended_in L limits to_head v start judged_law refused_law missed_law finished_law r h.steps h.outcome) in
+      record {
+        call = record { steps = h.steps; call = call };
+        told = tells_of (IsTextOf L) (sent_text to_head) L.input (IsRightInto L to_head) (stops L to_head) (right L to_head) (done L to_head) read_law ended_law write_law read_leaves write_leaves s t r h.steps call;
+        complete = completes_as (IsTextOf L) (sent_text to_head) L.input (IsRightInto L to_head) (stops L to_head) (right L to_head) (done L to_head) read_law ended_law write_law read_leaves write_leaves
+            s t r h.steps call (IsIntoAnswer L to_head) into_end_of (one L to_head r);
+        logged = logged_as _ h.steps (log s) (log t)
+            (facts (IsTextOf L) (sent_text to_head) L.input (IsRightInto L to_head) (stops L to_head) (right L to_head) (done L to_head) read_law ended_law write_law read_leaves write_leaves s t r h.steps call).logs
+            (at_entries (GivesFront (IsTextOf L) (sent_text to_head) L.input) front_alike h.steps call.asks call.gives);
+        counts = counted_as (IsTextOf L) (sent_text to_head) L.input (IsRightInto L to_head) (stops L to_head) (right L to_head) (done L to_head) read_law ended_law write_law read_leaves write_leaves s t r h.steps call;
+      }
