@@ -5,12 +5,12 @@ use Rattle.bh_spec.specs.declared.Refusal.TheVariants.{Dead, Limit, Ended, TooLo
 use Rattle.bh_spec.specs.declared.Summary.{Summary}
 use Rattle.bh_spec.specs.Bounds.{Bounds}
 use Rattle.bh_spec.specs.Reports.{summary}
-use Rattle.bh_base.specs.Steps.{Step, Entry, Meanings, taken, given, met, ReadFacts, WriteFacts, ReadLeaves, WriteLeaves}
+use Rattle.bh_base.specs.Steps.{Step, Entry, Meanings, Rose, taken, given, met, ReadFacts, WriteFacts, ReadLeaves, WriteLeaves}
 use Rattle.bh_model.specs.Ranges.{AreLimits}
 use Rattle.bh_stream.specs.Logs.{GivesFront}
 use Rattle.bh_stream.specs.Messages.{IsTextOf}
 use Rattle.bh_stream.specs.Runs.{Streams}
-use Rattle.bh_stream.specs.Telling.{EndStops}
+use Rattle.bh_stream.specs.Telling.{EndStops, CountsAs}
 use Rattle.bh_stream.specs.declared.streaming.End.{End}
 use Rattle.bh_stream.specs.declared.streaming.End.TheVariants as end
 use Rattle.bh_stream.proofs.Calls.{port_call}
@@ -24,8 +24,11 @@ use Rattle.h1_judge.specs.declared.judged.IntoWhy.TheVariants.{Binary, Form}
 use Rattle.h1_judge.specs.Views.{JudgedView, Moved, rest, room, IsAtStart, IsRefused, Tells, misses}
 use Rattle.h1_judge.specs.JudgedLaws.{judged_laws}
 use Rattle.h1_text.specs.Owed.{at_start, owed}
-use Rattle.h1_moments.specs.Laws.{JudgedThere, RefusedWhereFree, MissedWhereFree, FinishedWhereFree}
-use Rattle.bh_translate.specs.Into.{sent_text, IntoEnds, IsRightInto, into_end_of, IntoFacts}
+use Rattle.h1_text.specs.Writers as writing
+use Rattle.h1_text.specs.Writers.{Writing, owes}
+use Rattle.bh_translate.specs.Into.{sent_text, IsFormless, IntoEnds, IsRightInto, into_end_of, IntoFacts, IntoSo, into_end}
+use Rattle.bh_translate.specs.declared.into.IntoEnd.{IntoEnd}
+use Rattle.bh_translate.specs.declared.into.IntoEnd.TheVariants as ends
 use Rattle.bh_translate.proofs.Starting.{knows_clean}
 use Rattle.bh_translate.proofs.IntoEnding.{ended_in}
 
@@ -56,7 +59,7 @@ right L to_head (end.Refused (Binary (Ended at part))) steps more none h =
     subst (λ (l : List ℕ). IsIntoAnswer L to_head l (dead (Ended at part))) (sym (ap (λ (l : List ℕ). taken steps ++ l) (none h.1.0) ∙ append-nil (taken steps))) h.1.1
 right L to_head (end.Refused (Form form)) steps more none h = by_place h.1
   where
-    by_place : _ ⊎ ((met steps ≡ true) × IsIntoAnswer L to_head (taken steps) (formless form)) → IsIntoAnswer L to_head (taken steps ++ more) (formless form)
+    by_place : IsFormless L to_head form steps → IsIntoAnswer L to_head (taken steps ++ more) (formless form)
     by_place (inl j) = inl (j.0, j.2 more)
     by_place (inr e) = subst (λ (l : List ℕ). IsIntoAnswer L to_head l (formless form)) (sym (ap (λ (l : List ℕ). taken steps ++ l) (none e.0) ∙ append-nil (taken steps))) e.1
 right L to_head end.ReadFault steps more none h = tt
@@ -75,8 +78,7 @@ one L to_head (end.Refused (Form form)) answer input out is h no_read no_write =
 one L to_head end.ReadFault answer input out is h no_read no_write = absurd (no_read refl)
 one L to_head end.WriteFault answer input out is h no_read no_write = absurd (no_write refl)
 
-module _ (judged_law : JudgedThere) (refused_law : RefusedWhereFree) (missed_law : MissedWhereFree) (finished_law : FinishedWhereFree)
-    (L : Bounds) (limits : AreLimits L) (to_head : Bool) (v : JudgedView) (start : IsAtStart L to_head v)
+module _ (L : Bounds) (limits : AreLimits L) (to_head : Bool) (v : JudgedView) (start : IsAtStart L to_head v)
     {S : Type 0} {read write : S → Step → S → Type 0} {left sent : S → Option (List ℕ)} {read_faults write_faults : S → ℕ} {ended : S → Bool} {log : S → Option (List Entry)}
     (read_law : (s t : S) (x : Step) → read s x t → ReadFacts left read_faults ended s x t)
     (ended_law : (s : S) → ended s ≡ true → IsAtEnd (left s))
@@ -88,7 +90,7 @@ module _ (judged_law : JudgedThere) (refused_law : RefusedWhereFree) (missed_law
   into_facts s t r h =
       let knows = knows_clean L limits to_head v start in
       let call = port_call (IntoEnds L to_head) knows.limit_is h (gives_messages L (sent_text to_head) h.steps (gives_always knows judged_laws h))
-      (ended_in L limits to_head v start judged_law refused_law missed_law finished_law r h.steps h.outcome) in
+      (ended_in L limits to_head v start r h.steps h.outcome) in
       record {
         call = record { steps = h.steps; call = call };
         told = tells_of (IsTextOf L) (sent_text to_head) L.input (IsRightInto L to_head) (stops L to_head) (right L to_head) (done L to_head) read_law ended_law write_law read_leaves write_leaves s t r h.steps call;
@@ -99,3 +101,49 @@ module _ (judged_law : JudgedThere) (refused_law : RefusedWhereFree) (missed_law
             (at_entries (GivesFront (IsTextOf L) (sent_text to_head) L.input) front_alike h.steps call.asks call.gives);
         counts = counted_as (IsTextOf L) (sent_text to_head) L.input (IsRightInto L to_head) (stops L to_head) (right L to_head) (done L to_head) read_law ended_law write_law read_leaves write_leaves s t r h.steps call;
       }
+
+  -- the writer at the start owes the text
+  pub into_at : (w : Writing) → writing.IsAtStart L to_head w → (s t : S) (r : End Summary IntoWhy)
+      → Streams rest room Moved IsRefused Tells misses true 8191 read write v (owes w) s r t
+      → IntoFacts L to_head read write (record { left = left; sent = sent; read_faults = read_faults; write_faults = write_faults }) log s r t
+  into_at w at s t r h = into_facts s t r (subst (λ (x : Writing). Streams rest room Moved IsRefused Tells misses true 8191 read write v (owes x) s r t) at.4 h)
+
+-- what holds of the end of the loop holds of the end of the translator
+pub so : (U : Type 0) (P : End Summary IntoWhy → Type 0) (r : End Summary IntoWhy) (e : IntoEnd) → e ≡ into_end r → P r → IntoSo e U P
+so U P r e same h = subst (λ (x : IntoEnd). IntoSo x U P) (sym same) (by_end r h)
+  where
+    by_end : (r : End Summary IntoWhy) → P r → IntoSo (into_end r) U P
+    by_end (end.Done s) h = h
+    by_end (end.Refused (Binary why)) h = h
+    by_end (end.Refused (Form form)) h = h
+    by_end end.ReadFault h = h
+    by_end end.WriteFault h = h
+
+is_read_fault : (r : End Summary IntoWhy) → into_end r ≡ ends.ReadFault → r ≡ end.ReadFault
+is_read_fault (end.Done s) e = absurd cc
+is_read_fault (end.Refused (Binary why)) e = absurd cc
+is_read_fault (end.Refused (Form form)) e = absurd cc
+is_read_fault end.ReadFault e = refl
+is_read_fault end.WriteFault e = absurd cc
+
+is_write_fault : (r : End Summary IntoWhy) → into_end r ≡ ends.WriteFault → r ≡ end.WriteFault
+is_write_fault (end.Done s) e = absurd cc
+is_write_fault (end.Refused (Binary why)) e = absurd cc
+is_write_fault (end.Refused (Form form)) e = absurd cc
+is_write_fault end.ReadFault e = absurd cc
+is_write_fault end.WriteFault e = refl
+
+-- so do the counts of faults
+pub record SoCounts {S : Type 0} (port : Meanings S) (s : S) (e : IntoEnd) (t : S) : Type 0 where
+  pub read_fault : e ≡ ends.ReadFault → Rose (port.read_faults s) (port.read_faults t)
+  pub write_fault : e ≡ ends.WriteFault → Rose (port.write_faults s) (port.write_faults t)
+  pub quiet_reads : (e ≡ ends.ReadFault → ⊥) → port.read_faults t ≡ port.read_faults s
+  pub quiet_writes : (e ≡ ends.WriteFault → ⊥) → port.write_faults t ≡ port.write_faults s
+
+pub so_counts : {S : Type 0} (port : Meanings S) (s t : S) (r : End Summary IntoWhy) (e : IntoEnd) → e ≡ into_end r → CountsAs port s r t → SoCounts port s e t
+so_counts port s t r e same h = record {
+  read_fault = λ k. h.read_fault (is_read_fault r (sym same ∙ k));
+  write_fault = λ k. h.write_fault (is_write_fault r (sym same ∙ k));
+  quiet_reads = λ no. h.quiet_reads (λ k. no (same ∙ ap into_end k));
+  quiet_writes = λ no. h.quiet_writes (λ k. no (same ∙ ap into_end k));
+}

@@ -54,10 +54,11 @@ fn translate<P: Port>(
     judged: &mut Judged,
     writer: &mut Http1Writer,
     buffer: &mut [u8],
+    to_head: bool,
     limits: &Limits,
 ) -> End<Summary, IntoWhy>
-    requires judged { judging.IsAtStart limits.now writer.old.to_head judged.old }
-    requires writer { writing.IsAtStart limits.now writer.old.to_head writer.old }
+    requires judged { judging.IsAtStart limits.now to_head judged.old }
+    requires writer { writing.IsAtStart limits.now to_head writer.old }
     requires limits { AreLimits limits.now }
     requires size { (0 < length buffer.old) × (length buffer.old ≤ 8192) }
     ensures { let means : Meanings P = record {
@@ -66,8 +67,9 @@ fn translate<P: Port>(
       read_faults = P.read_faults;
       write_faults = P.write_faults;
     } in
-        IntoFacts limits.now writer.old.to_head P.read_step P.write_step means P.log port.old result port.new }
+        IntoFacts limits.now to_head P.read_step P.write_step means P.log port.old result port.new }
 {
+    let _ = to_head;
     let _ = limits;
     stream(port, judged, writer, buffer)
 }
@@ -108,6 +110,7 @@ pub fn to_http1<P: Port>(alloc: Global, port: &mut P, to_head: bool, limits: &Li
             &mut judged,
             &mut writer,
             &mut buffer,
+            to_head,
             limits,
         )),
         Err(NoMemory) => IntoEnd::NoMemory,
