@@ -28,6 +28,10 @@ tells = record {
 model : IsNumeralModel (All IsDigit) (digits_value 10)
 model = numerals_by_value (All IsDigit) tells
 
+-- a number of 18 digits at most
+pub few_digits : (digits : List ℕ) → length digits ≤ 18 → All IsDigit digits → digits_value 10 digits < 10 ^ 18
+few_digits digits few each = digits_value_short model digits 18 each few
+
 -- The digits up to one, and that one, are no more than all.
 pub digit_more : (digits : List ℕ) (i : ℕ) → i < length digits → length digits ≤ 18 → All IsDigit digits
     → (digits_value 10 (take i digits) * 10 + digit_value (get_or digits i 0) ≡ digits_value 10 (take (i + 1) digits))

@@ -67,7 +67,7 @@ and_parts : (a b : Bool) → a && b ≡ true → (a ≡ true) × (b ≡ true)
 and_parts true b e = (refl, e)
 and_parts false b e = absurd (false≢true e)
 
-tested : (value : List ℕ) → is_length (value ∷ []) ≡ true → IsLength value
+pub tested : (value : List ℕ) → is_length (value ∷ []) ≡ true → IsLength value
 tested value e =
     let some = and_parts (leb 1 (length value)) (leb (length value) 18 && list_all is_digit value) e in
     let few = and_parts (leb (length value) 18) (list_all is_digit value) some.1 in

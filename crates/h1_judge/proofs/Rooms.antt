@@ -1,0 +1,62 @@
+-- There is room for the sections of valid messages within the limits.
+use Rattle.std.proofs.Common.{◌≡◌, ◌≤◌, ◌<◌, ◌+◌, ◌*◌, ◌/◌, ℕ, Option, Some, None, List, [], ◌∷◌, length, All, arith}
+use Rattle.std.proofs.lemmas.List.{length-append}
+use Rattle.std.proofs.lemmas.List.Elements.{All-head, All-tail}
+use Rattle.bh_spec.specs.declared.Width.{Width}
+use Rattle.bh_spec.specs.declared.Width.TheVariants.{One, Two, Four, Eight}
+use Rattle.bh_spec.specs.Bounds.{Bounds, IsWithin}
+use Rattle.bh_spec.specs.Integers.{int, vi, least_width}
+use Rattle.bh_spec.specs.Messages.{Field}
+use Rattle.bh_spec.specs.Canonical.{string, line, lines, FieldsFit}
+use Rattle.bh_model.specs.Lines.{FieldsView, lines_room}
+use Rattle.h1_head.specs.Room.{room_in, count_in}
+use Rattle.h1_rules.specs.Hopping.{HopsView}
+use Rattle.h1_rules.specs.Own.{IsNamed}
+use Rattle.h1_judge.specs.Judges.{HasRoom, HasRoomOf, IsSound}
+use Rattle.h1_judge.specs.declared.judging.Judge.{Judge}
+
+int_some : (n : ℕ) → 0 < length (int n)
+int_some n = by_width (least_width n)
+  where
+    by_width : (w : Width) → 0 < length (vi n w)
+    by_width One = omega arith
+    by_width Two = omega arith
+    by_width Four = omega arith
+    by_width Eight = omega arith
+
+-- the text of lines has two bytes at least beside each name and value
+room_lines : (fields : List Field) → lines_room fields ≤ length (lines fields)
+room_lines [] = omega arith
+room_lines (f ∷ fields) =
+    omega (
+      arith,
+      room_lines fields,
+      length-append (line f) (lines fields),
+      length-append (string f.name) (string f.value),
+      length-append (int (length f.name)) f.name,
+      length-append (int (length f.value)) f.value,
+      int_some (length f.name),
+      int_some (length f.value),
+    )
+
+few_lines : (fields : List Field) → All IsNamed fields → 3 * length fields ≤ lines_room fields
+few_lines [] h = omega arith
+few_lines (f ∷ fields) h = omega (arith, few_lines fields (All-tail IsNamed f fields h), All-head IsNamed f fields h)
+
+within_at : (o : Option ℕ) (limit n : ℕ) → o ≡ Some limit → IsWithin o n → n ≤ limit
+within_at (Some k) limit n e h = let same : k ≡ limit = cc in omega (arith, h, same)
+within_at None limit n e h = absurd (cc)
+
+within : (L : Bounds) (hops : HopsView) (cleaned : FieldsView) (room : HasRoom L hops cleaned) (fields : List Field) → FieldsFit L fields
+    → lines_room fields ≤ room.section
+within L hops cleaned room fields fits = omega (arith, room_lines fields, within_at L.section room.section (length (lines fields)) room.section_is fits.total)
+
+pub room_of : (L : Bounds) (j : Judge) → IsSound L j → (fields : List Field) → FieldsFit L fields → All IsNamed fields → HasRoomOf j fields
+room_of L j sound fields fits named =
+    let room = sound.room in
+    let few = within L j.hops j.cleaned room fields fits in
+    record {
+      names = omega (arith, few, room.names);
+      lines = omega (arith, few, room.lines);
+      count = omega (arith, few, few_lines fields named, room.count);
+    }

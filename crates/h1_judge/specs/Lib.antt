@@ -1,0 +1,4 @@
+pub mod Courses
+pub mod Views
+pub mod Judges
+pub mod JudgedLaws

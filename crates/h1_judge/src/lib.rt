@@ -1,0 +1,11 @@
+//! The decoder that judges whether a binary message has an HTTP/1.1 form, while it reads it.
+#![tactic(auto)]
+
+mod judged;
+mod judging;
+mod steps;
+#[cfg(test)]
+mod tests;
+
+pub use h1_rules::Framing1;
+pub use judged::{IntoWhy, Judged};
