@@ -1,0 +1,5 @@
+pub mod Ahead
+pub mod Seeing
+pub mod Wholes
+pub mod Fronts
+pub mod Unseen
