@@ -37,79 +37,9 @@ use Rattle.h1_moments.specs.Laws.{NoneComesUnseen}
 use Rattle.h1_moments.proofs.Ahead.{IsSome, Ahead, the_end, a_byte, a_trailer, a_head, an_interim, state_ahead}
 use Rattle.h1_moments.proofs.Seeing.{seen-append, moments-append, head_stays, start_seen, tail_count, message_seen, message_moments, one_in, none_in, IsBeyond, are_beyond, interims_come}
 use Rattle.h1_moments.proofs.Wholes.{interim_in, among_moments}
+use Rattle.h1_moments.proofs.Continuing.{Continued, continued, ends_with, content_so_far}
+use Rattle.h1_moments.proofs.Placing.{seen_late}
 use Rattle.h1_moments.proofs.Fronts.{few_content, few_closing, head_ends, trailers_end, interim_ends}
-
--- ---- a message that continues the bytes
-
-pub record Continued (L : Bounds) (i q : List Item) (text t : Text) : Type 0 where
-  pub message : Message
-  pub omitted : Omitted
-  pub padding : ℕ
-  pub items_are : i ++ q ≡ items message omitted padding
-  pub spells : Spells L message omitted padding (text ++ t)
-
-pub continued : (L : Bounds) (bytes : List ℕ) (i : List Item) (w : At) (c : Comes L (in_framing []) bytes i w) (q : List Item) (t : Text) → Rest L w q t → Continued L i q c.within.text t
-continued L bytes i w c q t r =
-    let h = start_is.forth L (i ++ q) (c.within.text ++ t) (c.within.back q t r) in
-    record { message = h.0; omitted = h.1; padding = h.2; items_are = h.3; spells = h.4 }
-
--- its last item
-pub ends_with : (m : Message) (o o' : Omitted) (z z' : ℕ) (xs : List Item) → xs ++ ending o' z' ∷ [] ≡ items m o z → (o ≡ o') × (z ≡ z')
-ends_with m o o' z z' xs e =
-    let front = start_items m.start m.fields ++ (map content_byte m.content ++ trailer_items o m.trailers) in
-    let all : items m o z ≡ front ++ ending o z ∷ [] =
-    ap (λ (x : List Item). start_items m.start m.fields ++ x) (sym (append_assoc (map content_byte m.content) (trailer_items o m.trailers) (ending o z ∷ [])))
-    ∙ sym (append_assoc (start_items m.start m.fields) (map content_byte m.content ++ trailer_items o m.trailers) (ending o z ∷ [])) in
-    let last = (same_from_push xs front (ending o' z') (ending o z) (e ∙ all)).1 in
-    (let a : o ≡ o' = cc in a, let b : z ≡ z' = cc in b)
-
--- how much content the bytes have
-pub content_so_far : (L : Bounds) (bytes : List ℕ) (i : List Item) (w : At) (c : Comes L (in_framing []) bytes i w) → content_in c.within.text ≡ content_items i
-content_so_far L bytes i w c =
-    let a = c.goes_on in
-    let q = a.spelled.0 in
-    omega (
-      arith,
-      content_of_rest L (in_framing []) (i ++ q) (c.within.text ++ a.text) (c.within.back q a.text a.spelled.1),
-      content_of_rest L w q a.text a.spelled.1,
-      content-append c.within.text a.text,
-      items-append i q,
-    )
-
--- ---- a byte of content stands behind a head
-
-start_count : (start : Start) (fields : List Field) → content_items (start_items start fields) ≡ 0
-start_count (request c) fields = refl
-start_count (response is status) fields = omega (arith, items-append (map interim_item is) (head (of_response status) fields ∷ []), none is)
-  where
-    none : (is : List Interim) → content_items (map interim_item is) ≡ 0
-    none [] = refl
-    none (i ∷ is) = none is
-
-behind_interims : (is : List Interim) (of : Head) (fields : List Field) (tail i q : List Item) (byte : ℕ) → i ++ content_byte byte ∷ q ≡ map interim_item is ++ (head of fields ∷ tail)
-    → (more : List Item) × (i ≡ map interim_item is ++ (head of fields ∷ more))
-behind_interims [] of fields tail [] q byte e = absurd cc
-behind_interims [] of fields tail (x ∷ i) q byte e = let same : x ≡ head of fields = cc in (i, λ k. same k ∷ i)
-behind_interims (a ∷ is) of fields tail [] q byte e = absurd cc
-behind_interims (a ∷ is) of fields tail (x ∷ i) q byte e =
-    let same : x ≡ interim_item a = cc in
-    let rest : i ++ content_byte byte ∷ q ≡ map interim_item is ++ (head of fields ∷ tail) = cc in
-    let r = behind_interims is of fields tail i q byte rest in
-    (r.0, λ k. same k ∷ r.1 k)
-
-pub behind_start : (start : Start) (fields : List Field) (tail i q : List Item) (byte : ℕ) → i ++ content_byte byte ∷ q ≡ start_items start fields ++ tail → (more : List Item) × (i ≡ start_items start fields ++ more)
-behind_start (request c) fields tail i q byte e = behind_interims [] (of_request c) fields tail i q byte e
-behind_start (response is status) fields tail i q byte e =
-    let r = behind_interims is (of_response status) fields tail i q byte (e ∙ append_assoc (map interim_item is) (head (of_response status) fields ∷ []) tail) in
-    (r.0, r.1 ∙ sym (append_assoc (map interim_item is) (head (of_response status) fields ∷ []) r.0))
-
--- what was seen there
-pub seen_there : (m : Message) (o : Omitted) (z byte : ℕ) (i q : List Item) → i ++ content_byte byte ∷ q ≡ items m o z → seen_behind nothing_seen i ≡ head_seen m.start m.fields (content_items i)
-seen_there m o z byte i q e =
-    let b = behind_start m.start m.fields (tail_items m.content m.trailers o z) i q byte e in
-    let count : 0 + content_items b.0 ≡ content_items i = omega (arith, ap content_items b.1, items-append (start_items m.start m.fields) b.0, start_count m.start m.fields) in
-    ap (seen_behind nothing_seen) b.1 ∙ seen-append nothing_seen (start_items m.start m.fields) b.0 ∙ ap (λ (s : Seen). seen_behind s b.0) (start_seen m.start m.fields)
-    ∙ head_stays m.start m.fields 0 b.0 ∙ ap (head_seen m.start m.fields) count
 
 -- ---- numbers are short
 
@@ -379,7 +309,7 @@ by_next L bytes front more i w moment c t e h (a_byte byte q r) =
     by_case k (inl x) = x
     by_case k (inr x) =
         let m = k.message in
-        let seen = seen_there m k.omitted k.padding byte i q k.items_are in
+        let seen = seen_late m k.omitted k.padding i q (content_byte byte) (λ h. h) k.items_are in
         let beyond = are_beyond m.start m.fields (content_items i) byte q moment (subst (λ (s : Seen). Contains (moments_in s (content_byte byte ∷ q)) moment) seen x) in
         absurd (no_byte L m k.omitted k.padding (content_items i) c.within.text t front more moment (sym (content_so_far L bytes i w c)) k.spells e beyond h)
 by_next L bytes front more i w moment c t e h (a_trailer fields u v f some r) =
