@@ -237,7 +237,7 @@ section_is : (L : Bounds) (form : Form) → IsSection L form [] (last_section fo
 section_is L Known = ([], no_lines L, (zero_of parts.SectionLength, [], zero_is parts.SectionLength, refl, refl))
 section_is L Indeterminate = ([], zero_of parts.NameLength, no_lines L, zero_is parts.NameLength, refl)
 
-abbrev last_items : List Item
+abbrev pub last_items : List Item
 last_items = head (of_response 200) [] ∷ ending Both 0 ∷ []
 
 last_header : (L : Bounds) (form : Form) → AfterStart L form (of_response 200) last_items (last_section form)
@@ -258,7 +258,7 @@ interim_line : (L : Bounds) (form : Form) (i : Interim) (t : Text) → IsInterim
 interim_line L form i t h = subst HasLine (sym h.4) (line_front h.0 h.1 (section_line L form i.fields h.1 h.3))
 
 -- a final status, with no interim response before it
-last_response : (L : Bounds) (form : Form) (before : ℕ) → IsWithin L.interims before → ResponseRest L form before last_items (last_status ++ last_section form)
+pub last_response : (L : Bounds) (form : Form) (before : ℕ) → IsWithin L.interims before → ResponseRest L form before last_items (last_status ++ last_section form)
 last_response L form before few = record {
   thing = ([], 200);
   text = last_status;

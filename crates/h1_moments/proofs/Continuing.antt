@@ -28,15 +28,24 @@ continued L bytes i w c q t r =
     let h = start_is.forth L (i ++ q) (c.within.text ++ t) (c.within.back q t r) in
     record { message = h.0; omitted = h.1; padding = h.2; items_are = h.3; spells = h.4 }
 
--- its last item
-pub ends_with : (m : Message) (o o' : Omitted) (z z' : ℕ) (xs : List Item) → xs ++ ending o' z' ∷ [] ≡ items m o z → (o ≡ o') × (z ≡ z')
-ends_with m o o' z z' xs e =
+-- its last item, and those before it
+pub ends_so : (m : Message) (o o' : Omitted) (z z' : ℕ) (xs : List Item) → xs ++ ending o' z' ∷ [] ≡ items m o z
+    → (xs ≡ start_items m.start m.fields ++ (map content_byte m.content ++ trailer_items o m.trailers)) × (ending o' z' ≡ ending o z)
+ends_so m o o' z z' xs e =
     let front = start_items m.start m.fields ++ (map content_byte m.content ++ trailer_items o m.trailers) in
     let all : items m o z ≡ front ++ ending o z ∷ [] =
     ap (λ (x : List Item). start_items m.start m.fields ++ x) (sym (append_assoc (map content_byte m.content) (trailer_items o m.trailers) (ending o z ∷ [])))
     ∙ sym (append_assoc (start_items m.start m.fields) (map content_byte m.content ++ trailer_items o m.trailers) (ending o z ∷ [])) in
-    let last = (same_from_push xs front (ending o' z') (ending o z) (e ∙ all)).1 in
+    same_from_push xs front (ending o' z') (ending o z) (e ∙ all)
+
+pub ends_with : (m : Message) (o o' : Omitted) (z z' : ℕ) (xs : List Item) → xs ++ ending o' z' ∷ [] ≡ items m o z → (o ≡ o') × (z ≡ z')
+ends_with m o o' z z' xs e =
+    let last = (ends_so m o o' z z' xs e).1 in
     (let a : o ≡ o' = cc in a, let b : z ≡ z' = cc in b)
+
+pub ends_front : (m : Message) (o o' : Omitted) (z z' : ℕ) (xs : List Item) → xs ++ ending o' z' ∷ [] ≡ items m o z
+    → xs ≡ start_items m.start m.fields ++ (map content_byte m.content ++ trailer_items o m.trailers)
+ends_front m o o' z z' xs e = (ends_so m o o' z z' xs e).0
 
 -- how much content the bytes have
 pub content_so_far : (L : Bounds) (bytes : List ℕ) (i : List Item) (w : At) (c : Comes L (in_framing []) bytes i w) → content_in c.within.text ≡ content_items i

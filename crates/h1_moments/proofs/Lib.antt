@@ -5,3 +5,5 @@ pub mod Fronts
 pub mod Continuing
 pub mod Placing
 pub mod Unseen
+pub mod Lasting
+pub mod Judging

@@ -181,12 +181,12 @@ no_byte L m o z n text t front more (input_ended s fs k) count c e p h = h
 
 -- ---- an interim response
 
-record Snoc {A : Type 0} (xs : List A) : Type 0 where
-  init : List A
-  last : A
-  split : xs ≡ init ++ last ∷ []
+pub record Snoc {A : Type 0} (xs : List A) : Type 0 where
+  pub init : List A
+  pub last : A
+  pub split : xs ≡ init ++ last ∷ []
 
-snoc : {A : Type 0} (xs : List A) → (xs ≡ []) ⊎ Snoc xs
+pub snoc : {A : Type 0} (xs : List A) → (xs ≡ []) ⊎ Snoc xs
 snoc [] = inl refl
 snoc (x ∷ xs) = inr (by_rest (snoc xs))
   where
@@ -195,7 +195,7 @@ snoc (x ∷ xs) = inr (by_rest (snoc xs))
     by_rest (inr s) = record { init = x ∷ s.init; last = s.last; split = ap (λ (z : List _). x ∷ z) s.split }
 
 -- the last one ends no sooner than 16 bytes before the end of the text, if nothing but a status and an empty section follow it
-interim_late : (L : Bounds) (m : Message) (o : Omitted) (z : ℕ) (text t last : Text) (front more : List ℕ) (a : Interim) (g : Text) (h : IsInterims L a g) → o ≡ Both
+pub interim_late : (L : Bounds) (m : Message) (o : Omitted) (z : ℕ) (text t last : Text) (front more : List ℕ) (a : Interim) (g : Text) (h : IsInterims L a g) → o ≡ Both
     → Spells L m o z (text ++ (t ++ last)) → m.fields ≡ [] → interims_of m.start ≡ h.before ++ a ∷ [] → length last ≡ 16 → bytes_of g ≡ front → bytes_of text ≡ front ++ more → IsSome t → ⊥
 interim_late L m o z text t last front more a g h both c none place long same e some =
     let p = c.text in
@@ -233,11 +233,11 @@ interim_late L m o z text t last front more a g h both c none place long same e 
 
 -- ---- the law
 
-abbrev interim_next : Interim → List Item
+abbrev pub interim_next : Interim → List Item
 interim_next a = interim_item a ∷ head (of_response 200) [] ∷ ending Both 0 ∷ []
 
 -- a moment at a front that comes with such an interim response came with one before
-interim_seen : (L : Bounds) (i : List Item) (text t last : Text) (a : Interim) (c : Continued L i (interim_next a) text (t ++ last)) (front more : List ℕ) (moment : Moment)
+pub interim_seen : (L : Bounds) (i : List Item) (text t last : Text) (a : Interim) (c : Continued L i (interim_next a) text (t ++ last)) (front more : List ℕ) (moment : Moment)
     → length last ≡ 16 → bytes_of text ≡ front ++ more → IsSome t → ComesAt L front moment → (s : Seen) → seen_behind nothing_seen i ≡ s → Contains (moments_in s (interim_next a)) moment
     → Contains (moments_in nothing_seen i) moment
 interim_seen L i text t last a c front more moment long e some h (head_seen start fields n) seen k =

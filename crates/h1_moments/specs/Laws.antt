@@ -8,9 +8,9 @@ use Rattle.bh_spec.specs.declared.Refusal.{Refusal}
 use Rattle.bh_spec.specs.Bounds.{Bounds, IsWithin}
 use Rattle.bh_spec.specs.Messages.{Field, Interim, Start, Message}
 use Rattle.bh_spec.specs.Items.{Item, interim_response, head, content_byte, trailer_section, ending, items}
-use Rattle.bh_push.specs.Decoders.{At, in_framing}
+use Rattle.bh_push.specs.Decoders.{At, Rest, in_framing}
 use Rattle.bh_push.specs.Standing.{Comes, IsRight, IsPrompt}
-use Rattle.bh_push.specs.Pushes.{DecoderView, RefusesFirst, Finishes, MissesAs}
+use Rattle.bh_push.specs.Pushes.{DecoderView, RefusesFirst, MissesAs}
 use Rattle.bh_stream.specs.Decoding.{content_items}
 use Rattle.h1_spec.specs.Moments.{Moment, cases_at, first_of}
 use Rattle.h1_spec.specs.Judging.{ComesAt, NoneIsJudged, IsJudgedAt}
@@ -104,7 +104,7 @@ EndsAs L to_head bytes m omitted padding None = IsIntoAnswer L to_head bytes (fo
 EndsAs L to_head bytes m omitted padding (Some form) = IsIntoAnswer L to_head bytes (formless form)
 
 abbrev pub FinishedWhereFree : Type 0
-FinishedWhereFree = (L : Bounds) (to_head : Bool) (bytes : List ℕ) (i : List Item) (v w : DecoderView) (omitted : Omitted) (padding : ℕ)
-    → HasRead L to_head bytes i v → IsPrompt L v.at → Finishes v omitted padding w
+FinishedWhereFree = (L : Bounds) (to_head : Bool) (bytes : List ℕ) (i : List Item) (v : DecoderView) (omitted : Omitted) (padding : ℕ)
+    → HasRead L to_head bytes i v → IsPrompt L v.at → IsWithin L.input (length bytes) → Rest L v.at (ending omitted padding ∷ []) []
     → (m : Message) × (items m omitted padding ≡ i ++ ending omitted padding ∷ [])
     × EndsAs L to_head bytes m omitted padding (form_with to_head i (ending omitted padding))
