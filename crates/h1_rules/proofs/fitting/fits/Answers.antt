@@ -24,6 +24,6 @@ pub loop-i-preserved : goal.loop-i-preserved
 loop-i-preserved c =
     let room = c.loop-i.room - (c.string_bytes.result + c.string_bytes-in-loop-i.result) in
     let on = fits_on c.args.limits.now.part c.loop-i.room room c.args.fields.now.lines c.loop-i.i
-        (record { name = c.line.result.0.now; value = c.line.result.1.now }) c.line.ensures.line (c.parts_fit.ensures.0 c.if-not-parts_fit.false)
-        (omega (arith, c.if-used-room.false, c.string_bytes.ensures, c.string_bytes-in-loop-i.ensures)) in
+    (record { name = c.line.result.0.now; value = c.line.result.1.now }) c.line.ensures.line (c.parts_fit.ensures.0 c.if-not-parts_fit.false)
+    (omega (arith, c.if-used-room.false, c.string_bytes.ensures, c.string_bytes-in-loop-i.ensures)) in
     (λ h. on.0 (c.loop-i.invariant.0 h), λ h. c.loop-i.invariant.1 (on.1 h))
