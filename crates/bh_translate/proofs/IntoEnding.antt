@@ -266,17 +266,21 @@ module _ (L : Bounds) (limits : AreLimits L) (to_head : Bool) (v : JudgedView) (
 
   refused_in : (why : IntoWhy) (steps : List Step) → IsQuiet steps → IsRefusedIn Moved IsRefused v why steps → IntoEnds L to_head (end.Refused why) steps
   refused_in (Binary r) steps quiet h =
-      let s = h.stopped in
-      (quiet, of_byte r (length s.before) steps (dead_place s.state s.before s.items s.moved s.others (Binary r) s.refused r s.refused.refused) h.read_to
-      (λ more. dead_answer s.state s.before s.items s.moved s.others (Binary r) s.refused r s.refused.refused (taken steps) more s.split))
+      let s = h.stopped in (
+        quiet,
+        of_byte r (length s.before) steps (dead_place s.state s.before s.items s.moved s.others (Binary r) s.refused r s.refused.refused) h.read_to
+            (λ more. dead_answer s.state s.before s.items s.moved s.others (Binary r) s.refused r s.refused.refused (taken steps) more s.split),
+      )
   refused_in (Form form) steps quiet h =
       let s = h.stopped in
-      let j = s.refused.refused in
-      (quiet, inl (
-        place s.state s.before s.items s.moved s.others (Form form) s.refused form j,
-        sooner (length s.before) _ steps (judged_place s.state s.before s.items s.moved s.others (Form form) s.refused form j) h.read_to,
-        λ more. judged_answer s.state s.before s.items s.moved s.others (Form form) s.refused form j (taken steps) more s.split,
-      ))
+      let j = s.refused.refused in (
+        quiet,
+        inl (
+          place s.state s.before s.items s.moved s.others (Form form) s.refused form j,
+          sooner (length s.before) _ steps (judged_place s.state s.before s.items s.moved s.others (Form form) s.refused form j) h.read_to,
+          λ more. judged_answer s.state s.before s.items s.moved s.others (Form form) s.refused form j (taken steps) more s.split,
+        ),
+      )
 
   -- ---- the end
 
@@ -299,9 +303,11 @@ module _ (L : Bounds) (limits : AreLimits L) (to_head : Bool) (v : JudgedView) (
 
   missing_in : (why : IntoWhy) (steps : List Step) → IsQuiet steps → IsMissing Moved misses v why steps → IntoEnds L to_head (end.Refused why) steps
   missing_in (Binary r) steps quiet h =
-      let d = h.state.reading.held.decoder in
-      (quiet, of_end d r steps h.missing h.end
-      (missed_where_free L to_head (taken steps) h.moved.raw d r (has_read h.state (taken steps) h.items h.moved) (prompt_here h.state (taken steps) h.items h.moved) h.missing))
+      let d = h.state.reading.held.decoder in (
+        quiet,
+        of_end d r steps h.missing h.end
+            (missed_where_free L to_head (taken steps) h.moved.raw d r (has_read h.state (taken steps) h.items h.moved) (prompt_here h.state (taken steps) h.items h.moved) h.missing),
+      )
   missing_in (Form form) steps quiet h =
       let e = h.missing in
       let found = ends_there h.state (taken steps) h.items h.moved e.omitted e.padding (Some form) e.whole (λ some. e.judged) (λ n. absurd (e.without n)) in
@@ -315,19 +321,21 @@ module _ (L : Bounds) (limits : AreLimits L) (to_head : Bool) (v : JudgedView) (
       let raw = whole_raw w h.omitted h.padding h.whole in
       let found = ends_there w (taken steps) h.items m h.omitted h.padding None raw h.told.free (λ e. refl) in
       let told = (reading_judges L (few_counts L limits) v.reading start.reading).told w.reading (taken steps) m.raw h.omitted h.padding s m.moved raw h.told.summary in
-      let same = one_reading L L told.0 found.0 h.omitted h.omitted h.padding h.padding (taken steps) told.2.1 found.2.0.message.1 in
-      (quiet, record {
-        end = h.end;
-        message = found.0;
-        omitted = h.omitted;
-        padding = h.padding;
-        answer = found.2;
-        summary_is = told.3 ∙ ap (λ (n : Message). summary n h.omitted h.padding (length (taken steps))) same.0;
-        gave = h.gave ∙ ap (λ (q : List Item). written (owed to_head at_start q)) (items_there h found.0 found.1)
-            ∙ owes_the_text to_head (clean_message found.0) h.omitted h.padding
-            (leaves_clean found.0 h.omitted (spelled_leaves L found.0 h.omitted h.padding found.2.0.message.1.text found.2.0.message.1.spelled))
-            ∙ the_text_is_sent to_head found.0 (free_where_formed L to_head (taken steps) found.0 h.omitted h.padding found.2);
-      })
+      let same = one_reading L L told.0 found.0 h.omitted h.omitted h.padding h.padding (taken steps) told.2.1 found.2.0.message.1 in (
+        quiet,
+        record {
+          end = h.end;
+          message = found.0;
+          omitted = h.omitted;
+          padding = h.padding;
+          answer = found.2;
+          summary_is = told.3 ∙ ap (λ (n : Message). summary n h.omitted h.padding (length (taken steps))) same.0;
+          gave = h.gave ∙ ap (λ (q : List Item). written (owed to_head at_start q)) (items_there h found.0 found.1)
+              ∙ owes_the_text to_head (clean_message found.0) h.omitted h.padding
+              (leaves_clean found.0 h.omitted (spelled_leaves L found.0 h.omitted h.padding found.2.0.message.1.text found.2.0.message.1.spelled))
+              ∙ the_text_is_sent to_head found.0 (free_where_formed L to_head (taken steps) found.0 h.omitted h.padding found.2);
+        },
+      )
     where
       whole_raw : (w : JudgedView) (o : Omitted) (z : ℕ) → rest w (ending o z ∷ []) [] → binary.rest w.reading (ending o z ∷ []) []
       whole_raw w o z r = subst (λ (q : List Item). binary.rest w.reading q []) (one_ending w.course.named r.0 o z (sym r.1)) r.2

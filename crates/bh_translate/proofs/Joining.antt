@@ -122,7 +122,6 @@ module _ (to_head : Bool) (L : Bounds) where
       at_end ((content_byte x) ∷ i) z e = absurd cc
       at_end ((trailer_section more) ∷ i) z e = absurd cc
       at_end ((ending omitted padding) ∷ i) z e = absurd (some (behind_none i q cc))
-
   tail_free c start fields n ((ending omitted padding) ∷ i) q m some comes free = absurd (some (behind_none i q comes.1))
 
   pub items_free : (c : Course) (begun : Bool) (interims : List Interim) (i q : List Item) → (q ≡ [] → ⊥) → MessageComes L begun (i ++ q) → Free to_head c i

@@ -72,33 +72,33 @@ pub too_far : (to_head : Bool) (f : Framing1) (field n : ℕ) (named : List (Lis
 too_far to_head f field n named bytes e = subst (λ (g : Framing1). IsCounting g n → IsShort g n (length bytes) → 0 < length bytes
     → field - n < length bytes → IsLastJudged to_head (at g n named) bytes (no.LengthDiffers field (field + 1))) (sym e)
     (λ c short some far.
-        let s = last_of bytes some in
-        let full : n + length s.front ≡ field = omega (arith, c.0, short, far, s.long) in
-        record {
-          front = s.front;
-          last = s.last;
-          split = s.split;
-          free = free_within to_head field n named s.front (omega (arith, full));
-          judged = subst (λ (d : Course). item_form d (content_byte s.last) ≡ Some (no.LengthDiffers field (field + 1)))
-              (sym (counted_within to_head field n named s.front))
-              (first_on (no.LengthDiffers field (field + 1)) (nat_lt field ((n + length s.front) + 1)) (lt-ltb field ((n + length s.front) + 1) (omega (arith, full))));
-          far = λ long h. omega (arith, h, full, s.long);
-        })
+    let s = last_of bytes some in
+    let full : n + length s.front ≡ field = omega (arith, c.0, short, far, s.long) in
+    record {
+      front = s.front;
+      last = s.last;
+      split = s.split;
+      free = free_within to_head field n named s.front (omega (arith, full));
+      judged = subst (λ (d : Course). item_form d (content_byte s.last) ≡ Some (no.LengthDiffers field (field + 1)))
+          (sym (counted_within to_head field n named s.front))
+          (first_on (no.LengthDiffers field (field + 1)) (nat_lt field ((n + length s.front) + 1)) (lt-ltb field ((n + length s.front) + 1) (omega (arith, full))));
+      far = λ long h. omega (arith, h, full, s.long);
+    })
 
 pub none_may : (to_head : Bool) (f : Framing1) (n : ℕ) (named : List (List ℕ)) (bytes : List ℕ) → f ≡ Empty → IsShort f n (length bytes)
     → 0 < length bytes → IsLastJudged to_head (at f n named) bytes no.Bodyless
 none_may to_head f n named bytes e = subst (λ (g : Framing1). IsShort g n (length bytes) → 0 < length bytes
     → IsLastJudged to_head (at g n named) bytes no.Bodyless) (sym e)
     (λ short some.
-        let s = last_of bytes some in
-        record {
-          front = [];
-          last = s.last;
-          split = s.split ∙ ap (λ (l : List ℕ). l ++ s.last ∷ []) (no_front s.front (omega (arith, s.long, short)));
-          free = tt;
-          judged = refl;
-          far = λ long h. omega (arith, h, some);
-        })
+    let s = last_of bytes some in
+    record {
+      front = [];
+      last = s.last;
+      split = s.split ∙ ap (λ (l : List ℕ). l ++ s.last ∷ []) (no_front s.front (omega (arith, s.long, short)));
+      free = tt;
+      judged = refl;
+      far = λ long h. omega (arith, h, some);
+    })
   where
     no_front : (l : List ℕ) → length l ≡ 0 → l ≡ []
     no_front [] h = refl

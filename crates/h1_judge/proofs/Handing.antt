@@ -141,7 +141,7 @@ module _ (c d : Counted) (j k : Judge) (ready : IsReady (view_of c j)) where
       → Took binary.rest binary.Moved c piece n (map content_byte bytes) d → IsBehindContent d.held.decoder.at → Prompt d → IsLastJudged j.to_head (course_of j) bytes form → IsRefused v piece (why.Form form)
   content_judged piece n bytes form short few took right prompt h =
       let items : map content_byte bytes ≡ map content_byte h.front ++ content_byte h.last ∷ []
-          = ap (map content_byte) h.split ∙ map-append content_byte h.front (h.last ∷ []) in
+      = ap (map content_byte) h.split ∙ map-append content_byte h.front (h.last ∷ []) in
       refused_here piece n form (record {
         some = omega (arith, took.some, length-take-le n piece took.inside);
         raw = map content_byte h.front;
@@ -196,29 +196,42 @@ module _ (c d : Counted) (j k : Judge) (ready : IsReady (view_of c j)) where
       → IsRightOf event d.held.decoder.at → Judges j item None k → shows w event (cleaned_item j.hops.names item)
   shown_free (events.Interim status) item s fits right h =
       subst (λ (i : Item). IsFitting (binary.limits d) i → Judges j i None k → shows w (events.Interim status) (cleaned_item j.hops.names i)) (sym s.1)
-      (λ fits h. (s.0, ap (interim_response status) (sym h.cleaned), record {
-        section = record { lines = s.2; fitting = fits; right = right; cleaned = h.cleaned };
-        free = sym h.answer;
-      })) fits h
+      (λ fits h. (
+        s.0,
+        ap (interim_response status) (sym h.cleaned),
+        record {
+          section = record { lines = s.2; fitting = fits; right = right; cleaned = h.cleaned };
+          free = sym h.answer;
+        },
+      )) fits h
   shown_free events.Head item s fits right h =
       subst (λ (i : Item). IsFitting (binary.limits d) i → Judges j i None k → shows w events.Head (cleaned_item j.hops.names i)) (sym s.2)
-      (λ fits h. (s.0, s.1, ap (head s.0) (sym h.cleaned), record {
-        section = record { lines = s.4; fitting = fits; right = right; cleaned = h.cleaned };
-        free = sym h.answer;
-        head_is = s.3;
-        framing = ap (λ (e : Course). e.framing) (h.course refl) ∙ ap (λ (t : Bool). announced t (start_of s.0) s.1) (sym h.to_head);
-      })) fits h
+      (λ fits h. (
+        s.0,
+        s.1,
+        ap (head s.0) (sym h.cleaned),
+        record {
+          section = record { lines = s.4; fitting = fits; right = right; cleaned = h.cleaned };
+          free = sym h.answer;
+          head_is = s.3;
+          framing = ap (λ (e : Course). e.framing) (h.course refl) ∙ ap (λ (t : Bool). announced t (start_of s.0) s.1) (sym h.to_head);
+        },
+      )) fits h
   shown_free events.Trailers item s fits right h =
       subst (λ (i : Item). IsFitting (binary.limits d) i → Judges j i None k → shows w events.Trailers (cleaned_item j.hops.names i)) (sym s.1)
-      (λ fits h. (s.0, ap trailer_section (sym h.cleaned), record {
-        section = record {
-          lines = s.2;
-          fitting = fits;
-          right = right;
-          cleaned = h.cleaned ∙ ap (λ (names : List (List ℕ)). own_fields names (trailer_section s.0)) (sym (names_kept s.0 h));
-        };
-        free = ap has_bad_value h.cleaned ∙ values_free j.framing j.counted (own_fields j.hops.names (trailer_section s.0)) (sym h.answer);
-      })) fits h
+      (λ fits h. (
+        s.0,
+        ap trailer_section (sym h.cleaned),
+        record {
+          section = record {
+            lines = s.2;
+            fitting = fits;
+            right = right;
+            cleaned = h.cleaned ∙ ap (λ (names : List (List ℕ)). own_fields names (trailer_section s.0)) (sym (names_kept s.0 h));
+          };
+          free = ap has_bad_value h.cleaned ∙ values_free j.framing j.counted (own_fields j.hops.names (trailer_section s.0)) (sym h.answer);
+        },
+      )) fits h
 
   pub event_free : (piece : List ℕ) (n : ℕ) (event : Event) (item : Item) → Took binary.rest binary.Moved c piece n (item ∷ []) d
       → binary.shows d event item → content_items (item ∷ []) ≡ 0 → IsRightOf event d.held.decoder.at → Prompt d → Judges j item None k
@@ -235,7 +248,7 @@ module _ (c d : Counted) (j k : Judge) (ready : IsReady (view_of c j)) where
         prompt = prompt;
       } in
       let fits : IsFitting (binary.limits d) item
-          = subst (λ (L : Bounds). IsFitting L item) (sym took.moved.limits) (fitting_of (take n piece) item took.moved) in (
+      = subst (λ (L : Bounds). IsFitting L item) (sym took.moved.limits) (fitting_of (take n piece) item took.moved) in (
         own,
         record { some = took.some; inside = took.inside; moved = moved; alive = alive_there v w (take n piece) (own ∷ []) moved },
         shown_free event item shown fits right h,

@@ -86,7 +86,7 @@ module _ (c : Counted) (j : Judge) (piece : List ℕ) (a : ℕ) (d : Counted) (k
   pub whole_turn : length piece ≤ a → NeedOn (view_of c j) piece (view_of d k)
   whole_turn h =
       let moved : Moved (view_of c j) piece [] (view_of d k)
-          = subst (λ (l : List ℕ). Moved (view_of c j) l [] (view_of d k)) (take_all a piece h) t.moved in
+      = subst (λ (l : List ℕ). Moved (view_of c j) l [] (view_of d k)) (take_all a piece h) t.moved in
       (moved, inl (alive_there (view_of c j) (view_of d k) piece [] moved))
 
   module _ (bytes : List ℕ) (front : IsFront (drop a piece) bytes) where

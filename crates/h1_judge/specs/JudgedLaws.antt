@@ -91,7 +91,7 @@ stays v r = record {
 goes_on : (v w u : JudgedView) (x y : List ℕ) (i j : List Item) → Moved v x i w → Moved w y j u → Moved v (x ++ y) (i ++ j) u
 goes_on v w u x y i j a b =
     let there : behind w.to_head w.course b.raw ≡ behind v.to_head (behind v.to_head v.course a.raw) b.raw
-        = ap₂ (λ (t : Bool) (c : Course). behind t c b.raw) a.to_head a.course in
+    = ap₂ (λ (t : Bool) (c : Course). behind t c b.raw) a.to_head a.course in
     record {
       raw = a.raw ++ b.raw;
       items_are = ap (λ (q : List Item). i ++ q) b.items_are ∙ sym (cleaned_on v w x i a b.raw);

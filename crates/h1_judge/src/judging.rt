@@ -14,9 +14,12 @@ ghost use Rattle.h1_rules.specs.Own.{IsNamed};
 ghost use Rattle.h1_judge.specs.Courses.{start_course};
 ghost use Rattle.h1_judge.specs.Judges.{course_of, IsCounting, IsSound, HasRoomFor, HasRoomOf, IsCleaned, IsShort, Judges, CountsContent, Leaves, IsFront, EndsWith};
 
-use h1_rules::{Framing1, Hops, announced_by, clean_into, clean_trailers_into, form_of_interim, form_of_request, form_of_response, form_of_trailers};
 use bh_base::NoMemory;
 use bh_model::{ControlView, Fields, Limits, NoForm, Omitted};
+use h1_rules::{
+    Framing1, Hops, announced_by, clean_into, clean_trailers_into, form_of_interim,
+    form_of_request, form_of_response, form_of_trailers,
+};
 use std::alloc::Global;
 
 /// What the judgement of a message needs to know of it.

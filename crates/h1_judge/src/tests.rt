@@ -116,7 +116,11 @@ fn messages_are_judged(rt: HostRuntime) -> Result<(), NoMemory> {
             b"h|host=h|b=2xyzt|t=1.",
         ),
         (b"\x03\x40\xc8\x02:p\x011\x00\x00\x00", false, b"!pseudo"),
-        (b"\x03\x40\x65\x00\x40\xc8\x00\x00\x00", false, b"!switching"),
+        (
+            b"\x03\x40\x65\x00\x40\xc8\x00\x00\x00",
+            false,
+            b"!switching",
+        ),
         (b"\x03\x40\xcc\x00\x01a\x00\x00", false, b"h!bodyless"),
         (
             b"\x03\x40\xc8\x0econtent-length\x012\x00\x03abc\x00\x00",

@@ -187,7 +187,7 @@ pub open_due : (to_head : Bool) (of : Head) (fields : List Field) (q : List Item
     → owed to_head at_start (head of fields ∷ q) ≡ owed to_head (head_held (head_front (start_of of) fields)) q
 open_due to_head (of_response status) fields q h = absurd (cc)
 open_due to_head (of_request control) fields q h =
-    ap (λ (c : Bool). final_out c (head_front (request control) fields) (content_of q) (trailers_of q)) 
+    ap (λ (c : Bool). final_out c (head_front (request control) fields) (content_of q) (trailers_of q))
     (open_by (lengths fields) (is_bare (message_of (of_request control) fields q) (request control)) h ∙ bare_is (content_of q) (trailers_of q))
 
 -- content shows that there is a body

@@ -111,11 +111,7 @@ fn send_last<S: Sink>(kept: &[u8], sink: &mut S, trailers: &Fields) -> Result<()
 }
 
 /// Sends the head that is held, of a message without content, and its body.
-fn send_held<S: Sink>(
-    head: &mut Gathered,
-    sink: &mut S,
-    trailers: &Fields,
-) -> Result<(), Failed>
+fn send_held<S: Sink>(head: &mut Gathered, sink: &mut S, trailers: &Fields) -> Result<(), Failed>
     requires room { length (head_end true) < head.old.room }
     requires trailers { All IsHeadField trailers.now.lines }
     ensures sends { SendsRest S.write_step true (final_out (has_body [] trailers.now.lines) head.old.bytes [] trailers.now.lines)

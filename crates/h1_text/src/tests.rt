@@ -122,8 +122,9 @@ fn requests_are_written(rt: HostRuntime) -> Result<(), NoMemory> {
     let text = b"PUT /a HTTP/1.1\r\n\r\n".to_vec(alloc)?;
     assert_eq!(rt; bare, (Vec::new(alloc), text), "no body");
     let short = request(alloc, b"abc")?;
-    let text =
-        b"PUT /a HTTP/1.1\r\ntransfer-encoding: chunked\r\n\r\n3\r\nabc\r\n0\r\n\r\n".to_vec(alloc)?;
+    let text = b"PUT /a HTTP/1.1\r\ntransfer-encoding: chunked\r\n\r\n3\r\nabc\r\n0\r\n\r\n".to_vec(
+        alloc,
+    )?;
     assert_eq!(rt; short, (Vec::new(alloc), text), "a chunk");
     let whole = request(alloc, &[b'x'; 8192])?.1;
     assert_eq!(rt; whole.len(), 47 + 8200 + 5, "a whole chunk");

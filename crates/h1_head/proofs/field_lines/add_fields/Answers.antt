@@ -11,8 +11,8 @@ loop-span-preserved c =
     let old = c.loop-span.fields in
     let name = c.of.result.now in
     let one = grown old c.push_line.new.self (record { name = lower name; value = c.of-in-loop-span.result.now }) c.loop-span.invariant.making
-        c.push_line.ensures.lines c.push_line.ensures.making (omega (arith, c.push_line.ensures.spare, length-map name to_ascii_lowercase))
-        c.push_line.ensures.free in
+    c.push_line.ensures.lines c.push_line.ensures.making (omega (arith, c.push_line.ensures.spare, length-map name to_ascii_lowercase))
+    c.push_line.ensures.free in
     record {
       lines = grind (arith, common_steps);
       making = c.push_line.ensures.making;

@@ -46,8 +46,11 @@ returns c =
     let room = cleared c.args.fields.now c.clear.new.self c.clear.ensures.lines c.clear.ensures.making c.clear.ensures.spare c.clear.ensures.free in
     let start = line_lent c.in-Some-start_of.parts in
     record {
-      head = (head_is c.args.bytes.now c.in-Some.line.now c.in-Some.section.now start start c.fill_fields.new.fields.lines c.in-Some.ensures.whole
-          c.in-Some-start_of.ensures refl c.if-not-fill_fields.ensures.fills.0, c.if-not-fill_fields.ensures.fills.1);
+      head = (
+        head_is c.args.bytes.now c.in-Some.line.now c.in-Some.section.now start start c.fill_fields.new.fields.lines c.in-Some.ensures.whole
+            c.in-Some-start_of.ensures refl c.if-not-fill_fields.ensures.fills.0,
+        c.if-not-fill_fields.ensures.fills.1,
+      );
       kept = c.fill_fields.ensures.kept;
       room = c.fill_fields.ensures.room ∙ room.room;
       count = c.fill_fields.ensures.count ∙ room.count;

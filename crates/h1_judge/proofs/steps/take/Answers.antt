@@ -27,8 +27,8 @@ pub returns-in-Content-clause-pushed : goal.returns-in-Content-clause-pushed
 returns-in-Content-clause-pushed c =
     let e = c.in-Content.ensures in (
       turn_took c.args.reading.now c.args.judge.now c.args.piece.now c.loop-taken.taken c.loop-taken.reading c.loop-taken.judge c.loop-taken.invariant
-      c.front-bytes.result.now (subst (λ (l : List ℕ). IsFront l c.front-bytes.result.now) c.behind.ensures c.front-bytes.ensures.front)
-      (view_of c.step.new.reading c.step.new.judge) c.in-Content.more (map content_byte c.in-Content.content.now) e.pushed.0,
+          c.front-bytes.result.now (subst (λ (l : List ℕ). IsFront l c.front-bytes.result.now) c.behind.ensures c.front-bytes.ensures.front)
+          (view_of c.step.new.reading c.step.new.judge) c.in-Content.more (map content_byte c.in-Content.content.now) e.pushed.0,
       e.pushed.1,
       omega (arith, e.pushed.2),
     )
@@ -46,8 +46,8 @@ returns-in-Whole-clause-pushed c =
     let p = c.in-Whole.ensures.pushed in (
       p.0,
       turn_took c.args.reading.now c.args.judge.now c.args.piece.now c.loop-taken.taken c.loop-taken.reading c.loop-taken.judge c.loop-taken.invariant
-      c.front-bytes.result.now (subst (λ (l : List ℕ). IsFront l c.front-bytes.result.now) c.behind.ensures c.front-bytes.ensures.front)
-      (view_of c.step.new.reading c.step.new.judge) c.in-Whole.more (p.0 ∷ []) p.1,
+          c.front-bytes.result.now (subst (λ (l : List ℕ). IsFront l c.front-bytes.result.now) c.behind.ensures c.front-bytes.ensures.front)
+          (view_of c.step.new.reading c.step.new.judge) c.in-Whole.more (p.0 ∷ []) p.1,
       p.2,
       p.3,
     )
