@@ -1,5 +1,5 @@
 -- What a run of a command did.
-use Rattle.std.specs.Prelude.{◌≡◌, ◌≤◌, ◌⊎◌, ℕ, List, [], ◌++◌, length, map, Option, Some, None, String, string_bytes}
+use Rattle.std.specs.Prelude.{◌≡◌, ◌≤◌, ◌⊎◌, ℕ, Bool, List, [], ◌++◌, length, map, Option, Some, None, String, string_bytes}
 use Rattle.std.specs.List.{sum}
 use Rattle.std.specs.Io.KnownBytes.{Appends}
 use Rattle.std.specs.declared.alloc.Global.{Global}
@@ -24,8 +24,9 @@ use Rattle.bh_words.specs.declared.commands.Command.{Command}
 use Rattle.bh_words.specs.Words.{IsCommand}
 use Rattle.bh_cmd.specs.declared.exits.Exit.{Exit}
 use Rattle.bh_cmd.specs.declared.exits.Exit.TheVariants.{Done, Refused, Usage, ReadFault, WriteFault, NoMemory, DoorFault, ShelfFault}
-use Rattle.bh_words.specs.declared.commands.Command.TheVariants.{Canon, Check, Show, Trial}
-use Rattle.bh_cmd.specs.Exits.{EndsSo, exit_of}
+use Rattle.bh_words.specs.declared.commands.Command.TheVariants.{Canon, Check, Show, ToHttp1, Trial}
+use Rattle.bh_translate.specs.Into.{IntoCall, IntoTold, IntoCompletes, IntoLog}
+use Rattle.bh_cmd.specs.Exits.{EndsSo, TranslatesSo, exit_of}
 use Rattle.bh_cmd.specs.Trials.{trial}
 
 -- the words mean the command, and they mean none
@@ -40,6 +41,7 @@ abbrev pub CanRun : Command → Type 0
 CanRun (Canon L) = Unit {0}
 CanRun (Check L) = Unit {0}
 CanRun (Show L) = Unit {0}
+CanRun (ToHttp1 L to_head) = Unit {0}
 CanRun (Trial n) = n ≤ 67108864
 
 -- The line went out whole, and no write failed; or a front of it, and the sink's count of faults rose.
@@ -74,6 +76,18 @@ pub record CheckRun (L : Bounds) {S : Type 0} (read : S → Step → S → Type 
   pub write_fault : exit ≡ WriteFault → ⊥
   pub quiet_reads : (exit ≡ ReadFault → ⊥) → port.read_faults t ≡ port.read_faults s
   pub quiet_writes : port.write_faults t ≡ port.write_faults s
+
+-- What a run of `to-http1` did, under these limits, in the same words. Where memory ran out, the port is as it was.
+pub record TranslatingRun (L : Bounds) (to_head : Bool) {S : Type 0} (read write : S → Step → S → Type 0) (port : Meanings S)
+    (log : S → Option (List Entry)) (s : S) (exit : Exit) (t : S) : Type 0 where
+  pub call : TranslatesSo exit (t ≡ s) (λ r. IntoCall L to_head read write s r t)
+  pub told : TranslatesSo exit (t ≡ s) (λ r. IntoTold L to_head port s r t)
+  pub complete : TranslatesSo exit (t ≡ s) (λ r. IntoCompletes L to_head port s r t)
+  pub logged : TranslatesSo exit (t ≡ s) (λ r. IsLogged (IntoLog L to_head) (log s) (log t))
+  pub read_fault : exit ≡ ReadFault → Rose (port.read_faults s) (port.read_faults t)
+  pub write_fault : exit ≡ WriteFault → Rose (port.write_faults s) (port.write_faults t)
+  pub quiet_reads : (exit ≡ ReadFault → ⊥) → port.read_faults t ≡ port.read_faults s
+  pub quiet_writes : (exit ≡ WriteFault → ⊥) → port.write_faults t ≡ port.write_faults s
 
 -- The line of a trial whose engine ended with this summary: its four numbers are those of its input and of the canonical text.
 pub record IsTrialLine (n : ℕ) (s : Summary) (line : List ℕ) : Type 0 where
@@ -136,6 +150,7 @@ Performs (Canon L) read write port log s exit t =
     WritingRun L canon (HasBody (IsMessageText L)) 16383 (λ r. CanonCall L read write s r t) port log s exit t
 Performs (Check L) read write port log s exit t = CheckRun L read port s exit t
 Performs (Show L) read write port log s exit t = WritingRun L show Shown 8223 (λ r. ShowCall L read write s r t) port log s exit t
+Performs (ToHttp1 L to_head) read write port log s exit t = TranslatingRun L to_head read write port log s exit t
 Performs (Trial n) read write port log s exit t = TrialExitFacts n write port s exit t
 
 -- What the words say of a run.

@@ -35,7 +35,7 @@ fn add_string(text: &mut Vec<u8>, bytes: &[u8]) -> Result<(), NoMemory>
 }
 
 /// How many bytes a length and the bytes have.
-fn string_bytes(bytes: &[u8]) -> u64
+pub fn string_bytes(bytes: &[u8]) -> u64
     requires { length bytes.now ≤ greatest }
     ensures { result ≡ length (string bytes.now) }
 {

@@ -11,6 +11,6 @@ mod tests;
 mod whole;
 
 pub use encoder::{AtContent, AtHead, Finished, StreamEncoder, WriteFault, begin};
-pub use known::write_known;
+pub use known::{string_bytes, write_known};
 pub use laws::{calls_send_canon, canon_is_read, known_is_read};
 pub use whole::{send_content, write_canonical};

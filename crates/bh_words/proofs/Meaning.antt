@@ -1,14 +1,14 @@
 -- From what words set to what they mean.
-use Rattle.std.proofs.Common.{◌≡◌, ◌∙◌, ℕ, refl, sym, ap, subst, List, ◌∷◌, Option, Some, None, codes, MatchOption, true, false}
+use Rattle.std.proofs.Common.{◌≡◌, ◌∙◌, ℕ, refl, sym, ap, ap₂, subst, List, ◌∷◌, Option, Some, None, is_some, codes, MatchOption, Bool, true, false, if◌then◌else◌, arith}
 use Rattle.std.specs.Str.{bytes_eq}
 use Rattle.bh_spec.specs.Bounds.{Bounds, default_bounds}
 use Rattle.bh_words.specs.Numbers.{IsGiven}
 use Rattle.bh_words.specs.Settings.{Text, Form, Setting, Set, value_of}
 use Rattle.bh_words.specs.Arguments.{is_form}
-use Rattle.bh_words.specs.Words.{AreGiven, IsTrial, MeanLimits, MeanTrial, limited, counted, name_of, IsCommand}
+use Rattle.bh_words.specs.Words.{AreGiven, AreInto, IsTrial, MeanLimits, MeanInto, MeanTrial, limited, into_http1, counted, name_of, IsCommand}
 use Rattle.bh_words.specs.declared.commands.Command.{Command}
-use Rattle.bh_words.specs.declared.commands.Command.TheVariants.{Canon, Check, Show, Trial}
-use Rattle.clap.specs.Matches.{first_value, found_of}
+use Rattle.bh_words.specs.declared.commands.Command.TheVariants.{Canon, Check, Show, ToHttp1, Trial}
+use Rattle.clap.specs.Matches.{first_value, found_of, one_text}
 use Rattle.clap.specs.declared.parser.matches.ArgMatches.{ArgMatches}
 use Rattle.bh_words.specs.Reader.{SetsNothing, Sets}
 use Rattle.std.specs.Str.Parse.{digits_value}
@@ -53,6 +53,51 @@ limits_read words o m told is =
     let sets : Sets limited words m = subst (λ x. MatchOption x (SetsNothing limited words) (Sets limited words)) is told in
     limits_meant words (first_value (found_of m)) sets.0 sets.1 (λ name. sets.2.values name refl)
 
+into_same : (v w : Text → Option Text) → ((name : Text) → v name ≡ w name) → (limits : Bounds) (to_head : Bool) → AreInto v limits to_head → AreInto w limits to_head
+into_same v w same limits to_head h = record { given = given_same v w same limits h.given; switched = h.switched ∙ ap is_some (same (codes "to-head")) }
+
+-- a switch that is told is set, and one that isn't told isn't
+flag_is : (value : Option Text) (text : Option Text) (flag : Bool) → text ≡ Some (if is_some value then codes "true" else codes "false")
+    → (text ≡ Some (codes "true") → flag ≡ true) → (text ≡ Some (codes "false") → flag ≡ false) → flag ≡ is_some value
+flag_is (Some x) text flag e f g = f e
+flag_is None text flag e f g = g e
+
+module _ (words : List Text) (o : Option ArgMatches) (m : ArgMatches) (told : MatchOption o (SetsNothing into_http1 words) (Sets into_http1 words)) (is : o ≡ Some m) where
+  abbrev sets : Sets into_http1 words m
+  sets = subst (λ x. MatchOption x (SetsNothing into_http1 words) (Sets into_http1 words)) is told
+
+  -- the limits that the matches give are those of the settings
+  to_settings : (limits : Bounds) → AreGiven (first_value (found_of m)) limits → AreGiven (λ name. value_of name sets.0) limits
+  to_settings limits h = record {
+    part = subst (λ x. IsGiven x default_bounds.part limits.part) (sets.2.values (codes "part") refl) h.part;
+    section = subst (λ x. IsGiven x default_bounds.section limits.section) (sets.2.values (codes "section") refl) h.section;
+    interims = subst (λ x. IsGiven x default_bounds.interims limits.interims) (sets.2.values (codes "interims") refl) h.interims;
+    input = subst (λ x. IsGiven x default_bounds.input limits.input) (sets.2.values (codes "input") refl) h.input;
+    valid = h.valid;
+  }
+
+  from_settings : (limits : Bounds) → AreGiven (λ name. value_of name sets.0) limits → AreGiven (first_value (found_of m)) limits
+  from_settings limits h = record {
+    part = subst (λ x. IsGiven x default_bounds.part limits.part) (sym (sets.2.values (codes "part") refl)) h.part;
+    section = subst (λ x. IsGiven x default_bounds.section limits.section) (sym (sets.2.values (codes "section") refl)) h.section;
+    interims = subst (λ x. IsGiven x default_bounds.interims limits.interims) (sym (sets.2.values (codes "interims") refl)) h.interims;
+    input = subst (λ x. IsGiven x default_bounds.input limits.input) (sym (sets.2.values (codes "input") refl)) h.input;
+    valid = h.valid;
+  }
+
+  pub into_some : (limits : Bounds) (flag : Bool) → AreGiven (first_value (found_of m)) limits
+      → (one_text (found_of m) (codes "to-head") ≡ Some (codes "true") → flag ≡ true) → (one_text (found_of m) (codes "to-head") ≡ Some (codes "false") → flag ≡ false)
+      → MeanInto words limits flag
+  into_some limits flag h f g = (
+    sets.0,
+    sets.1,
+    record { given = to_settings limits h; switched = flag_is (value_of (codes "to-head") sets.0) (one_text (found_of m) (codes "to-head")) flag (sets.2.flags (codes "to-head") (0, omega arith, refl)) f g },
+  )
+
+  pub into_none : ((limits : Bounds) → AreGiven (first_value (found_of m)) limits → ⊥) → (limits : Bounds) (to_head : Bool) → MeanInto words limits to_head → ⊥
+  into_none none limits to_head h = none limits (from_settings limits
+      (subst (λ (all : List Setting). AreGiven (λ name. value_of name all) limits) (one_set into_http1 refl words h.0 sets.0 h.1 sets.1) h.2.given))
+
 pub trial_read : (words : List Text) (o : Option ArgMatches) (m : ArgMatches) → MatchOption o (SetsNothing counted words) (Sets counted words) → o ≡ Some m
     → (r : Option ℕ) → MatchOption r ((n : ℕ) → IsTrial (first_value (found_of m)) n → ⊥) (IsTrial (first_value (found_of m)))
     → MatchOption r ((n : ℕ) → MeanTrial words n → ⊥) (MeanTrial words)
@@ -88,16 +133,26 @@ pub no_show : (words : List Text) (o : Option Bounds) → MatchOption o ((limits
 no_show words o answer none (Show limits) is = no_limits words o answer none limits (is.settings, subst (λ ws. Set limited is.settings ws) (sym (behind (codes "show") (codes "show") words is.rest is.named)) is.set, is.meant)
 no_show words o answer none other is = let e : true ≡ false = ap (bytes_eq (codes "show")) (front (codes "show") (name_of other) words is.rest is.named) in absurd cc
 
+no_both : (words : List Text) (o : Option (Bounds × Bool)) → MatchOption o ((both : Bounds × Bool) → MeanInto words both.0 both.1 → ⊥) (λ both. MeanInto words both.0 both.1) → o ≡ None
+    → (limits : Bounds) (to_head : Bool) → MeanInto words limits to_head → ⊥
+no_both words None h e limits to_head is = h (limits, to_head) is
+no_both words (Some both) h e limits to_head is = absurd cc
+
+pub no_into : (words : List Text) (o : Option (Bounds × Bool)) → MatchOption o ((both : Bounds × Bool) → MeanInto words both.0 both.1 → ⊥) (λ both. MeanInto words both.0 both.1) → o ≡ None → (command : Command) → IsCommand (codes "to-http1" ∷ words) command → ⊥
+no_into words o answer none (ToHttp1 limits to_head) is = no_both words o answer none limits to_head (is.settings, subst (λ ws. Set into_http1 is.settings ws) (sym (behind (codes "to-http1") (codes "to-http1") words is.rest is.named)) is.set, is.meant)
+no_into words o answer none other is = let e : true ≡ false = ap (bytes_eq (codes "to-http1")) (front (codes "to-http1") (name_of other) words is.rest is.named) in absurd cc
+
 pub no_trial : (words : List Text) (o : Option ℕ) → MatchOption o ((n : ℕ) → MeanTrial words n → ⊥) (MeanTrial words) → o ≡ None → (command : Command) → IsCommand (codes "trial" ∷ words) command → ⊥
 no_trial words o answer none (Trial n) is = no_number words o answer none n (is.settings, subst (λ ws. Set counted is.settings ws) (sym (behind (codes "trial") (codes "trial") words is.rest is.named)) is.set, is.meant)
 no_trial words o answer none other is = let e : true ≡ false = ap (bytes_eq (codes "trial")) (front (codes "trial") (name_of other) words is.rest is.named) in absurd cc
 
 pub unnamed : (name : Text) (words : List Text) → (name ≡ codes "canon" → ⊥) → (name ≡ codes "check" → ⊥) → (name ≡ codes "show" → ⊥)
-    → (name ≡ codes "trial" → ⊥) → (command : Command) → IsCommand (name ∷ words) command → ⊥
-unnamed name words canon check show trial (Canon limits) is = canon (front name (codes "canon") words is.rest is.named)
-unnamed name words canon check show trial (Check limits) is = check (front name (codes "check") words is.rest is.named)
-unnamed name words canon check show trial (Show limits) is = show (front name (codes "show") words is.rest is.named)
-unnamed name words canon check show trial (Trial n) is = trial (front name (codes "trial") words is.rest is.named)
+    → (name ≡ codes "to-http1" → ⊥) → (name ≡ codes "trial" → ⊥) → (command : Command) → IsCommand (name ∷ words) command → ⊥
+unnamed name words canon check show into trial (Canon limits) is = canon (front name (codes "canon") words is.rest is.named)
+unnamed name words canon check show into trial (Check limits) is = check (front name (codes "check") words is.rest is.named)
+unnamed name words canon check show into trial (Show limits) is = show (front name (codes "show") words is.rest is.named)
+unnamed name words canon check show into trial (ToHttp1 limits to_head) is = into (front name (codes "to-http1") words is.rest is.named)
+unnamed name words canon check show into trial (Trial n) is = trial (front name (codes "trial") words is.rest is.named)
 
 -- ---- words mean one command
 same_bounds : (a b : Bounds) → a.part ≡ b.part → a.section ≡ b.section → a.interims ≡ b.interims → a.input ≡ b.input → a ≡ b
@@ -134,6 +189,11 @@ rests words a b p q = behind (name_of b) (name_of a) q.rest p.rest (sym q.named 
 names : (words : List Text) (a b : Command) → IsCommand words a → IsCommand words b → name_of a ≡ name_of b
 names words a b p q = front (name_of a) (name_of b) p.rest q.rest (sym p.named ∙ q.named)
 
+into_once : (words : List Text) (a b : Bounds) (x y : Bool) → MeanInto words a x → MeanInto words b y → (a ≡ b) × (x ≡ y)
+into_once words a b x y h k =
+    let one = subst (λ (all : List Setting). AreInto (λ name. value_of name all) a x) (one_set into_http1 refl words h.0 k.0 h.1 k.1) h.2 in
+    (one_limits (λ name. value_of name k.0) a b one.given k.2.given, one.switched ∙ sym k.2.switched)
+
 pub one_command : (words : List Text) (a b : Command) → IsCommand words a → IsCommand words b → a ≡ b
 one_command words (Canon x) (Canon y) p q = ap Canon (limits_once p.rest x y (p.settings, p.set, p.meant) (q.settings, subst (Set limited q.settings) (rests words (Canon x) (Canon y) p q) q.set, q.meant))
 one_command words (Canon x) other p q = let e : true ≡ false = ap (bytes_eq (codes "canon")) (names words (Canon x) other p q) in absurd cc
@@ -141,5 +201,9 @@ one_command words (Check x) (Check y) p q = ap Check (limits_once p.rest x y (p.
 one_command words (Check x) other p q = let e : true ≡ false = ap (bytes_eq (codes "check")) (names words (Check x) other p q) in absurd cc
 one_command words (Show x) (Show y) p q = ap Show (limits_once p.rest x y (p.settings, p.set, p.meant) (q.settings, subst (Set limited q.settings) (rests words (Show x) (Show y) p q) q.set, q.meant))
 one_command words (Show x) other p q = let e : true ≡ false = ap (bytes_eq (codes "show")) (names words (Show x) other p q) in absurd cc
+one_command words (ToHttp1 x i) (ToHttp1 y j) p q =
+    let one = into_once p.rest x y i j (p.settings, p.set, p.meant) (q.settings, subst (Set into_http1 q.settings) (rests words (ToHttp1 x i) (ToHttp1 y j) p q) q.set, q.meant) in
+    ap₂ ToHttp1 one.0 one.1
+one_command words (ToHttp1 x i) other p q = let e : true ≡ false = ap (bytes_eq (codes "to-http1")) (names words (ToHttp1 x i) other p q) in absurd cc
 one_command words (Trial x) (Trial y) p q = ap Trial (trial_once p.rest x y (p.settings, p.set, p.meant) (q.settings, subst (Set counted q.settings) (rests words (Trial x) (Trial y) p q) q.set, q.meant))
 one_command words (Trial x) other p q = let e : true ≡ false = ap (bytes_eq (codes "trial")) (names words (Trial x) other p q) in absurd cc

@@ -1,15 +1,22 @@
 -- Which words mean which command.
-use Rattle.std.specs.Prelude.{ℕ, ◌≡◌, ◌≤◌, List, [], ◌∷◌, Option, Some, None, codes}
+use Rattle.std.specs.Prelude.{ℕ, ◌≡◌, ◌≤◌, List, [], ◌∷◌, Option, Some, None, Bool, is_some, codes}
 use Rattle.bh_spec.specs.Bounds.{Bounds, default_bounds}
 use Rattle.bh_model.specs.Ranges.{AreLimits}
 use Rattle.bh_words.specs.declared.commands.Command.{Command}
-use Rattle.bh_words.specs.declared.commands.Command.TheVariants.{Canon, Check, Show, Trial}
+use Rattle.bh_words.specs.declared.commands.Command.TheVariants.{Canon, Check, Show, ToHttp1, Trial}
 use Rattle.bh_words.specs.Numbers.{IsNumber, IsGiven}
 use Rattle.bh_words.specs.Settings.{Text, Form, Setting, Set, value_of}
 
 -- the forms of the commands
 abbrev pub limited : Form
 limited = record { options = codes "part" ∷ codes "section" ∷ codes "interims" ∷ codes "input" ∷ []; switches = []; own = None }
+
+abbrev pub into_http1 : Form
+into_http1 = record {
+  options = codes "part" ∷ codes "section" ∷ codes "interims" ∷ codes "input" ∷ [];
+  switches = codes "to-head" ∷ [];
+  own = None;
+}
 
 abbrev pub counted : Form
 counted = record { options = []; switches = []; own = Some (codes "N") }
@@ -21,6 +28,11 @@ pub record AreGiven (value : Text → Option Text) (limits : Bounds) : Type 0 wh
   pub interims : IsGiven (value (codes "interims")) default_bounds.interims limits.interims
   pub input : IsGiven (value (codes "input")) default_bounds.input limits.input
   pub valid : AreLimits limits
+
+-- the limits, and whether a response answers HEAD
+pub record AreInto (value : Text → Option Text) (limits : Bounds) (to_head : Bool) : Type 0 where
+  pub given : AreGiven value limits
+  pub switched : to_head ≡ is_some (value (codes "to-head"))
 
 -- the number is the one that the values give, and not too great
 pub record IsTrial (value : Text → Option Text) (n : ℕ) : Type 0 where
@@ -34,18 +46,21 @@ abbrev pub name_of : Command → Text
 name_of (Canon limits) = codes "canon"
 name_of (Check limits) = codes "check"
 name_of (Show limits) = codes "show"
+name_of (ToHttp1 limits to_head) = codes "to-http1"
 name_of (Trial n) = codes "trial"
 
 abbrev pub form_of_command : Command → Form
 form_of_command (Canon limits) = limited
 form_of_command (Check limits) = limited
 form_of_command (Show limits) = limited
+form_of_command (ToHttp1 limits to_head) = into_http1
 form_of_command (Trial n) = counted
 
 abbrev pub IsMeant : Command → (Text → Option Text) → Type 0
 IsMeant (Canon limits) value = AreGiven value limits
 IsMeant (Check limits) value = AreGiven value limits
 IsMeant (Show limits) value = AreGiven value limits
+IsMeant (ToHttp1 limits to_head) value = AreInto value limits to_head
 IsMeant (Trial n) value = IsTrial value n
 
 -- The words mean the command.
@@ -56,9 +71,13 @@ pub record IsCommand (words : List Text) (command : Command) : Type 0 where
   pub set : Set (form_of_command command) settings rest
   pub meant : IsMeant command (λ name. value_of name settings)
 
--- the words behind a name mean the limits, and the number of `trial`
+-- the words behind a name mean the limits; the limits and the switch of `to-http1`; and the number of `trial`
 abbrev pub MeanLimits : List Text → Bounds → Type 0
 MeanLimits words limits = (settings : List Setting) × Set limited settings words × AreGiven (λ name. value_of name settings) limits
+
+abbrev pub MeanInto : List Text → Bounds → Bool → Type 0
+MeanInto words limits to_head = (settings : List Setting) × Set into_http1 settings words
+    × AreInto (λ name. value_of name settings) limits to_head
 
 abbrev pub MeanTrial : List Text → ℕ → Type 0
 MeanTrial words n = (settings : List Setting) × Set counted settings words × IsTrial (λ name. value_of name settings) n

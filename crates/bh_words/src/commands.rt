@@ -3,9 +3,9 @@ ghost use Rattle.std.specs.Prelude.{◌≡◌, ◌∷◌, ℕ, IfOk, MatchOption
 ghost use Rattle.clap.specs.Words.{first_value, found_of};
 ghost use Rattle.bh_spec.specs.Bounds.{Bounds};
 ghost use Rattle.bh_words.specs.Settings.{Finds};
-ghost use Rattle.bh_words.specs.Words.{IsCommand, AreGiven, IsTrial, MeanLimits, MeanTrial};
+ghost use Rattle.bh_words.specs.Words.{IsCommand, AreGiven, IsTrial, MeanLimits, MeanInto, MeanTrial};
 
-use crate::forms::{LIMITED, TRIAL};
+use crate::forms::{INTO, LIMITED, TRIAL};
 use crate::numbers::{given, number};
 use crate::reader::read;
 use bh_base::NoMemory;
@@ -22,6 +22,8 @@ pub enum Command {
     Check(Limits),
     /// List a message.
     Show(Limits),
+    /// Translate a message to HTTP/1.1; `to_head`: a response answers HEAD.
+    ToHttp1 { limits: Limits, to_head: bool },
     /// Make a message with so many bytes of content, and make it canonical.
     Trial(u64),
 }
@@ -57,6 +59,19 @@ fn limited(alloc: Global, words: &[String]) -> Result<Option<Limits>, NoMemory>
 {
     match read(alloc, words, LIMITED)? {
         Some(matches) => Ok(limits_of(&matches)),
+        None => Ok(None),
+    }
+}
+
+/// The limits, and whether a response answers HEAD, that the words behind `to-http1` mean.
+fn into(alloc: Global, words: &[String]) -> Result<Option<(Limits, bool)>, NoMemory>
+    ensures { IfOk result (Finds (λ both. MeanInto (map string_bytes words.now) both.0 both.1)) }
+{
+    match read(alloc, words, INTO)? {
+        Some(matches) => match limits_of(&matches) {
+            Some(limits) => Ok(Some((limits, matches.get_flag("to-head")))),
+            None => Ok(None),
+        },
         None => Ok(None),
     }
 }
@@ -101,6 +116,16 @@ fn show(alloc: Global, words: &[String]) -> Result<Option<Command>, NoMemory>
     }
 }
 
+/// `to-http1`, where the words behind its name mean it.
+fn to_http1(alloc: Global, words: &[String]) -> Result<Option<Command>, NoMemory>
+    ensures { IfOk result (Finds (IsCommand (codes "to-http1" ∷ map string_bytes words.now))) }
+{
+    match into(alloc, words)? {
+        Some((limits, to_head)) => Ok(Some(Command::ToHttp1 { limits, to_head })),
+        None => Ok(None),
+    }
+}
+
 /// `trial`, where the words behind its name mean it.
 fn trial_command(alloc: Global, words: &[String]) -> Result<Option<Command>, NoMemory>
     ensures { IfOk result (Finds (IsCommand (codes "trial" ∷ map string_bytes words.now))) }
@@ -123,6 +148,9 @@ fn named(alloc: Global, name: &str, words: &[String]) -> Result<Option<Command>,
     }
     if name == "show" {
         return show(alloc, words);
+    }
+    if name == "to-http1" {
+        return to_http1(alloc, words);
     }
     if name == "trial" {
         return trial_command(alloc, words);

@@ -15,6 +15,13 @@ pub(crate) const LIMITED: Form = Form {
     own: None,
 };
 
+/// `to-http1`.
+pub(crate) const INTO: Form = Form {
+    options: &["part", "section", "interims", "input"],
+    switches: &["to-head"],
+    own: None,
+};
+
 /// `trial`.
 pub(crate) const TRIAL: Form = Form {
     options: &[],

@@ -14,12 +14,14 @@ fn list_of(alloc: Global, text: &str) -> Result<Vec<String>, Fail> {
     Ok(words)
 }
 
-/// What words mean: `canon`, `check` or `show` with its limits, `trial` with its number, or no command.
+/// What words mean: `canon`, `check` or `show` with its limits; `to-http1` with its part and input limits, and whether a response
+/// answers HEAD; `trial` with its number; or no command.
 #[derive(Clone, Copy, Debug, PartialEq, Eq)]
 enum Meant {
     Canon(u64, u64, u64, u64),
     Check(u64, u64, u64, u64),
     Show(u64, u64, u64, u64),
+    Into(u64, u64, bool),
     Trial(u64),
     Nothing,
 }
@@ -30,6 +32,7 @@ fn value_of(command: &Command) -> Meant {
         Command::Canon(l) => Meant::Canon(l.part(), l.section(), l.interims(), l.input()),
         Command::Check(l) => Meant::Check(l.part(), l.section(), l.interims(), l.input()),
         Command::Show(l) => Meant::Show(l.part(), l.section(), l.interims(), l.input()),
+        Command::ToHttp1 { limits: l, to_head } => Meant::Into(l.part(), l.input(), *to_head),
         Command::Trial(n) => Meant::Trial(*n),
     }
 }
@@ -43,7 +46,7 @@ fn meaning(alloc: Global, text: &str) -> Result<Meant, Fail> {
 }
 
 /// Words, and what they mean.
-const ROWS: [(&str, Meant); 23] = [
+const ROWS: [(&str, Meant); 27] = [
     ("canon", Meant::Canon(8192, 65_536, 16, 1_099_511_627_776)),
     (
         "canon|--part|16",
@@ -109,13 +112,23 @@ const ROWS: [(&str, Meant); 23] = [
         "show|--interims=0|--section|17",
         Meant::Show(8192, 17, 0, 1_099_511_627_776),
     ),
+    ("to-http1", Meant::Into(8192, 1_099_511_627_776, false)),
+    (
+        "to-http1|--to-head",
+        Meant::Into(8192, 1_099_511_627_776, true),
+    ),
+    (
+        "to-http1|--part|16|--to-head",
+        Meant::Into(16, 1_099_511_627_776, true),
+    ),
+    ("to-http1|--to-head|--input=4", Meant::Into(8192, 4, true)),
     ("trial|0", Meant::Trial(0)),
     ("trial|5", Meant::Trial(5)),
     ("trial|0000067108864", Meant::Trial(67_108_864)),
 ];
 
 /// Words that mean nothing, a line each of these texts.
-const WRONG: [&str; 18] = [
+const WRONG: [&str; 19] = [
     "\n|\nCanon\ncanon \n--canon\n-\n--\n-h\n--help\nhelp\nchecks\nsho\nfrom-http1\nserve|8080\ncanon|",
     "canon|16\ncanon|canon\ncanon|-\ncanon|--\ncanon|-h\ncanon|--help\ncanon|--version\ncanon|--par|16",
     "canon|--Part|16\ncanon|-part|16\ncanon|--parts|16\ncanon|--=16\ncanon|--part16\ncanon|--scheme=http",
@@ -133,7 +146,8 @@ const WRONG: [&str; 18] = [
     "canon|--interims=16|--interims=16\ncanon|--input|16|--input|16\ncanon|--input|16|--input=16",
     "canon|--input=16|--input|16\ncanon|--input=16|--input=16\ncanon|--part=16|--section|16|--part|17",
     "trial\ntrial|\ntrial|5|5\ntrial|-5\ntrial|+5\ntrial|--part|16|5\ntrial|5|--input=16\ntrial|67108865",
-    "trial|00000000000005\ntrial|0x5\ntrial|five",
+    "trial|00000000000005\ntrial|0x5\ntrial|five\ncanon|--to-head\ntrial|5|--to-head\nto-http1|--scheme=http",
+    "to-http1|--to-head|--to-head\nto-http1|--to-head=1\nto-http1|--to-head|1\nto-http1|16",
 ];
 
 #[test]

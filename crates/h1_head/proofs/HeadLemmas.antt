@@ -1,12 +1,10 @@
 -- A head is its start line and its section.
-use Rattle.std.proofs.Common.{refl, sym, ap, subst, ◌≡◌, ◌∙◌, ℕ, List, ◌∷◌, ◌++◌, append_assoc, Err}
+use Rattle.std.proofs.Common.{refl, sym, ap, subst, ◌≡◌, ◌∙◌, ℕ, List, ◌∷◌, ◌++◌, append_assoc, length, ◌≤◌, arith}
+use Rattle.std.proofs.lemmas.List.{length-append}
 use Rattle.bh_spec.specs.Messages.{Field}
 use Rattle.h1_spec.specs.Grammar.{crlf}
 use Rattle.h1_spec.specs.Heads.{StartLine, Head, IsStartLine, IsSection, IsHead}
-use Rattle.h1_head.specs.declared.head.HeadWhy.{HeadWhy}
-use Rattle.h1_head.specs.declared.head.HeadWhy.TheVariants.{Form, NoMemory}
 use Rattle.h1_head.specs.Cuts.{Lacks}
-use Rattle.h1_head.specs.Parsed.{IsHeadAnswer, IsFieldsAnswer}
 use Rattle.h1_spec.proofs.Fronts.{cut_at}
 use Rattle.h1_spec.proofs.HeadTexts.{start_lacks}
 
@@ -53,11 +51,16 @@ pub no_start : (bytes line section : List ℕ) → Lacks 13 line → bytes ≡ (
 no_start bytes line section lacks whole none head h =
     none head.start (same_parts bytes line section lacks whole head h).start
 
--- what refuses a section refuses its head
-pub refused : (bytes line section : List ℕ) (why : HeadWhy) → Lacks 13 line → bytes ≡ (line ++ crlf) ++ section
-    → IsFieldsAnswer section (Err why) → IsHeadAnswer bytes (Err why)
-refused bytes line section Form lacks whole none = λ head h. none head.fields (same_parts bytes line section lacks whole head h).fields
-refused bytes line section NoMemory lacks whole none = tt
+-- without a section there is no head
+pub no_section : (bytes line section : List ℕ) → Lacks 13 line → bytes ≡ (line ++ crlf) ++ section
+    → ((fields : List Field) → IsSection fields section → ⊥) → (head : Head) → IsHead head bytes → ⊥
+no_section bytes line section lacks whole none head h = none head.fields (same_parts bytes line section lacks whole head h).fields
+
+-- the section is no longer than the head
+pub shorter : (bytes line section : List ℕ) → bytes ≡ (line ++ crlf) ++ section → length section ≤ length bytes
+shorter bytes line section whole =
+    let long = ap (λ (b : List ℕ). length b) whole in
+    omega (arith, long, length-append (line ++ crlf) section)
 
 pub head_is : (bytes line section : List ℕ) (start lent : StartLine) (fields : List Field) → bytes ≡ (line ++ crlf) ++ section
     → IsStartLine lent line → start ≡ lent → IsSection fields section → IsHead (record { start = start; fields = fields }) bytes

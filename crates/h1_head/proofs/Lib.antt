@@ -1,3 +1,4 @@
+pub mod Rooms
 pub mod Classes
 pub mod Trimming
 pub mod Sections

@@ -2,37 +2,24 @@
 //!
 //! The crate's own grammar is wider: a line of it may end in LF alone. It says exactly what it reads, so what is left to
 //! test here is that each LF has its CR, and that the section ends where the bytes do.
-ghost use Rattle.std.specs.Prelude.{◌≡◌, ◌≤◌, ◌<◌, ◌+◌, ◌*◌, ◌^◌, ◌==◌, ◌↔◌, ℕ, List, [], length, map, take, All, IfOk, IfSome, IfNone, IsTrue, None};
+ghost use Rattle.std.specs.Prelude.{◌≡◌, ◌≤◌, ◌<◌, ◌+◌, ◌*◌, ◌^◌, ◌==◌, ◌↔◌, ℕ, List, [], length, map, take, All, IfSome, IfNone, IsTrue, None};
 ghost use Rattle.std.specs.List.{count_by};
 ghost use Rattle.httparse.specs.Grammar as read;
 ghost use Rattle.httparse.specs.Spans.{IsHeaderWithin, span_bytes};
 ghost use Rattle.bh_spec.specs.Messages.{Field};
 ghost use Rattle.bh_model.specs.Lines.{lines_room};
 ghost use Rattle.h1_spec.specs.Heads.{IsSection};
-ghost use Rattle.h1_head.specs.Parsed.{IsFieldsAnswer, Fills};
+ghost use Rattle.h1_head.specs.Parsed.{Fills};
+ghost use Rattle.h1_head.specs.Room.{room_in, count_in};
 ghost use Rattle.h1_head.specs.Spanned.{IsNamed, IsRead, IsEven, field_at};
 
-use crate::head::HeadWhy;
 use bh_model::Fields;
 use httparse::Status;
-use httparse::spans::{EMPTY_HEADER_SPAN, HeaderSpan, parse_headers};
-use std::alloc::Global;
+use httparse::spans::{HeaderSpan, parse_headers};
 
-/// The fields of field lines and the empty line behind them: what ends a head, and a trailer section whole (RFC 9112,
-/// sections 5 and 7.1.2).
-pub fn parse_fields(alloc: Global, section: &[u8]) -> Result<Fields, HeadWhy>
-    requires { length section.now ≤ 2 ^ 24 }
-    ensures { IsFieldsAnswer section.now result }
-{
-    let Some(lines) = lines_of(section) else {
-        return Err(HeadWhy::Form);
-    };
-    let mut spans = vec![in alloc; EMPTY_HEADER_SPAN; lines]?;
-    read_fields(alloc, section, &mut spans)
-}
-
-/// The same, which takes no memory: into empty `fields`, with `spans` to work with, a quarter as many as the section may
-/// have bytes. Whether the bytes are such a section.
+/// Fills in the fields of field lines and the empty line behind them: what ends a head, and a trailer section whole (RFC 9112,
+/// sections 5 and 7.1.2). `fields` are empty, and `spans`, to work with, are a quarter as many as the section may have bytes. It
+/// takes no memory. Whether the bytes are such a section.
 pub fn fill_fields(section: &[u8], spans: &mut [HeaderSpan], fields: &mut Fields) -> bool
     requires small { length section.now ≤ 2 ^ 24 }
     requires room { length section.now ≤ 4 * length spans.old + 1 }
@@ -42,6 +29,8 @@ pub fn fill_fields(section: &[u8], spans: &mut [HeaderSpan], fields: &mut Fields
     requires free { length section.now ≤ 3 * fields.old.free + 2 }
     ensures fills { Fills section.now result fields.new }
     ensures kept { length spans.new ≡ length spans.old }
+    ensures room { room_in fields.new ≡ room_in fields.old }
+    ensures count { count_in fields.new ≡ count_in fields.old }
 {
     let Some(lines) = lines_of(section) else {
         return false;
@@ -65,22 +54,6 @@ fn lines_of(section: &[u8]) -> Option<usize>
     Some(lines)
 }
 
-/// The fields, with a span for each LF.
-fn read_fields(alloc: Global, section: &[u8], spans: &mut [HeaderSpan]) -> Result<Fields, HeadWhy>
-    requires small { length section.now ≤ 2 ^ 24 }
-    requires even { IsEven section.now (length spans.old) }
-    ensures { IsFieldsAnswer section.now result }
-{
-    match read_spans(section, spans) {
-        Some(count) => {
-            let mut fields = Fields::with_room(alloc, section.len(), count)?;
-            add_fields(section, front(spans, count), &mut fields);
-            Ok(fields)
-        }
-        None => Err(HeadWhy::Form),
-    }
-}
-
 /// Fills in the fields, with a span for each LF.
 fn fill_lines(section: &[u8], spans: &mut [HeaderSpan], fields: &mut Fields) -> bool
     requires small { length section.now ≤ 2 ^ 24 }
@@ -89,7 +62,9 @@ fn fill_lines(section: &[u8], spans: &mut [HeaderSpan], fields: &mut Fields) -> 
     requires idle { fields.old.making ≡ None }
     requires spare { length section.now ≤ fields.old.spare }
     requires free { length section.now ≤ 3 * fields.old.free + 2 }
-    ensures { Fills section.now result fields.new }
+    ensures fills { Fills section.now result fields.new }
+    ensures room { room_in fields.new ≡ room_in fields.old }
+    ensures count { count_in fields.new ≡ count_in fields.old }
 {
     match read_spans(section, spans) {
         Some(count) => {
@@ -138,6 +113,8 @@ fn add_fields(section: &[u8], spans: &[HeaderSpan], fields: &mut Fields)
     requires free { length spans.now ≤ fields.old.free }
     ensures lines { fields.new.lines ≡ map (field_at section.now) spans.now }
     ensures ended { fields.new.making ≡ None }
+    ensures room { room_in fields.new ≡ room_in fields.old }
+    ensures count { count_in fields.new ≡ count_in fields.old }
 {
     for span in spans {
         fields.push_line(span.name.of(section), span.value.of(section));

@@ -7,7 +7,8 @@ ghost use Rattle.h1_head.specs.Parsed.{IsStartAnswer};
 
 use crate::splitting::{behind, cut_at};
 
-/// The parts of a start line.
+/// What a start line says (RFC 9112, sections 3 and 4), as bytes of it. A response's reason is dropped.
+#[derive(Clone, Copy)]
 pub enum StartParts<'a> {
     Request { method: &'a [u8], target: &'a [u8] },
     Response { status: u16 },

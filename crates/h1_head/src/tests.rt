@@ -1,6 +1,7 @@
 use super::*;
 use bh_base::{Failed, MemSink, NoMemory};
 use bh_model::Fields;
+use httparse::spans::EMPTY_HEADER_SPAN;
 use std::alloc::{AllocError, Global};
 
 /// A head in one line: its start, and each field between bars.
@@ -206,7 +207,12 @@ fn lines(alloc: Global, section: &[u8]) -> Result<Fields, HeadWhy> {
     if section.len() > 1000 {
         return Err(HeadWhy::NoMemory);
     }
-    parse_fields(alloc, section)
+    let mut spans = vec![in alloc; EMPTY_HEADER_SPAN; section.len() / 4 + 1]?;
+    let mut fields = Fields::with_room(alloc, section.len(), section.len() / 3)?;
+    if !fill_fields(section, &mut spans, &mut fields) {
+        return Err(HeadWhy::Form);
+    }
+    Ok(fields)
 }
 
 #[test]

@@ -1,8 +1,7 @@
 -- What comes next behind a state: an item, with a text that ends the message soon behind it.
-use Rattle.std.proofs.Common.{◌≡◌, ◌<◌, ◌≤◌, ◌+◌, ◌⊎◌, ℕ, zero, suc, List, [], ◌∷◌, ◌++◌, length, map, replicate, All, refl, sym, ap, subst, ◌∙◌, inl, inr, append_assoc, append-nil, length-append, arith}
+use Rattle.std.proofs.Common.{◌≡◌, ◌<◌, ◌+◌, ◌⊎◌, ℕ, List, [], ◌∷◌, ◌++◌, length, map, All, refl, sym, ap, subst, ◌∙◌, inl, inr, append_assoc, append-nil, length-append, arith}
 use Rattle.std.specs.List.{concat}
-use Rattle.std.proofs.lemmas.List.{length-map}
-use Rattle.std.proofs.lemmas.List.Elements.{All-head, All-tail, All-nil, All-cons}
+use Rattle.std.proofs.lemmas.List.Elements.{All-head, All-nil, All-cons}
 use Rattle.bh_spec.specs.declared.Part.{Part}
 use Rattle.bh_spec.specs.declared.Part.TheVariants as parts
 use Rattle.bh_spec.specs.declared.Form.{Form}
@@ -15,11 +14,11 @@ use Rattle.bh_spec.specs.declared.Width.TheVariants.{Eight}
 use Rattle.bh_spec.specs.Bounds.{Bounds, IsWithin}
 use Rattle.bh_spec.specs.Integers.{vi}
 use Rattle.bh_spec.specs.Messages.{Field, Interim, IsInterim}
-use Rattle.bh_spec.specs.Texts.{Text, mark, IsNumber, AreEach, IsString}
+use Rattle.bh_spec.specs.Texts.{Text, mark, IsNumber, AreEach}
 use Rattle.bh_spec.specs.Sections.{IsSection}
 use Rattle.bh_spec.specs.Spelling.{IsInterimText}
 use Rattle.bh_spec.specs.Yields.{Yields}
-use Rattle.bh_spec.specs.Items.{Item, Head, of_request, of_response, interim_response, head, content_byte, trailer_section, ending}
+use Rattle.bh_spec.specs.Items.{Item, Head, of_request, of_response, head, content_byte, trailer_section, ending}
 use Rattle.bh_spec.proofs.Sections.{number_nonempty}
 use Rattle.bh_spec.proofs.Within.{no_lines, no_headers, within_less}
 use Rattle.bh_model.specs.declared.field.Place.TheVariants.{Header, Trailer}

@@ -1,5 +1,5 @@
 -- Messages that continue the bytes that lead to a state.
-use Rattle.std.proofs.Common.{◌≡◌, ◌+◌, ℕ, List, [], ◌∷◌, ◌++◌, map, refl, sym, ap, ◌∙◌, append_assoc, arith}
+use Rattle.std.proofs.Common.{◌≡◌, ℕ, List, [], ◌∷◌, ◌++◌, map, refl, sym, ap, ◌∙◌, append_assoc, arith}
 use Rattle.std.proofs.lemmas.List.{same_from_push}
 use Rattle.bh_spec.specs.declared.Omitted.{Omitted}
 use Rattle.bh_spec.specs.Bounds.{Bounds}
@@ -68,4 +68,3 @@ start_count (response is status) fields = omega (arith, items-append (map interi
     none : (is : List Interim) → content_items (map interim_item is) ≡ 0
     none [] = refl
     none (i ∷ is) = none is
-

@@ -1,49 +1,29 @@
 -- What stands at a front of the text of a message.
-use Rattle.std.proofs.Common.{◌≡◌, ◌<◌, ◌≤◌, ◌+◌, ◌⊎◌, ℕ, zero, suc, List, [], ◌∷◌, ◌++◌, length, map, All, refl, sym, ap, ap₂, subst, ◌∙◌, inl, inr, append_assoc, append-nil, length-append, arith}
-use Rattle.std.specs.List.{Contains}
-use Rattle.std.proofs.lemmas.List.{same_from_push}
-use Rattle.std.proofs.lemmas.List.Elements.{All-head, All-tail, Contains-append_cases}
+use Rattle.std.proofs.Common.{◌≡◌, ◌≤◌, ℕ, List, [], ◌∷◌, ◌++◌, length, All, refl, sym, ap, ap₂, subst, ◌∙◌, append_assoc, append-nil, length-append, arith}
+use Rattle.std.proofs.lemmas.List.Elements.{All-head, All-tail}
 use Rattle.bh_spec.specs.declared.Part.{Part}
 use Rattle.bh_spec.specs.declared.Part.TheVariants as parts
 use Rattle.bh_spec.specs.declared.Form.{Form}
-use Rattle.bh_spec.specs.declared.Form.TheVariants.{Known, Indeterminate}
-use Rattle.bh_spec.specs.declared.Kind.TheVariants.{Request, Response}
+use Rattle.bh_spec.specs.declared.Kind.TheVariants.{Response}
 use Rattle.bh_spec.specs.declared.Omitted.{Omitted}
 use Rattle.bh_spec.specs.declared.Omitted.TheVariants.{Nothing, Trailers, Both}
-use Rattle.bh_spec.specs.declared.Width.{Width}
-use Rattle.bh_spec.specs.declared.Width.TheVariants.{One, Two, Four, Eight}
 use Rattle.bh_spec.specs.Bounds.{Bounds}
-use Rattle.bh_spec.specs.Integers.{vi, byte_count}
 use Rattle.bh_spec.specs.Messages.{Field, Interim, Start, request, response, kind_of, Message, IsInterim, IsStart}
-use Rattle.bh_spec.specs.Texts.{Text, bytes_of, mark, IsNumber, AreEach, content_in}
-use Rattle.bh_spec.specs.Sections.{IsSection}
-use Rattle.bh_spec.specs.Tails.{IsBody, IsTail}
+use Rattle.bh_spec.specs.Texts.{Text, bytes_of, IsNumber, AreEach, content_in}
+use Rattle.bh_spec.specs.Tails.{IsTail}
 use Rattle.bh_spec.specs.Spelling.{IsInterimText, IsStartText, framing, Spells}
-use Rattle.bh_spec.specs.Viable.{SpellsBytes}
-use Rattle.bh_spec.specs.Items.{Item, Head, of_request, of_response, interim_response, head, content_byte, trailer_section, ending, start_items, trailer_items, tail_items, items}
 use Rattle.bh_spec.proofs.Meeting.{Meets, meets_front}
 use Rattle.bh_spec.proofs.Numbers.{number_meets}
 use Rattle.bh_spec.proofs.Sections.{body_agrees}
 use Rattle.bh_spec.proofs.Whole.{framing_is}
-use Rattle.bh_spec.proofs.Widths.{length-vi}
-use Rattle.bh_spec.proofs.Marks.{bytes_of-append, content-append, length-mark}
-use Rattle.bh_push.specs.Completing.{interim_item}
-use Rattle.bh_push.specs.Decoders.{At, Rest, in_framing}
-use Rattle.bh_push.specs.Standing.{Comes, IsPrompt}
-use Rattle.bh_push.proofs.Starting.{start_is}
-use Rattle.bh_stream.specs.Decoding.{content_items}
-use Rattle.bh_stream.proofs.Moving.{items-append, bytes-length}
-use Rattle.bh_reading.specs.ContentLaws.{content_of_rest}
+use Rattle.bh_spec.proofs.Marks.{bytes_of-append, content-append}
+use Rattle.bh_stream.proofs.Moving.{bytes-length}
 use Rattle.h1_spec.specs.Http1.{interims_of}
-use Rattle.h1_spec.specs.Moments.{Moment, interim_ended, head_ended, content_read, trailers_ended, input_ended, moments}
+use Rattle.h1_spec.specs.Moments.{head_ended, content_read, trailers_ended}
 use Rattle.h1_spec.specs.Judging.{IsOpening, IsInterims, IsContent, IsClosing, ComesAt}
 use Rattle.h1_spec.proofs.Coming.{Tailed, tailed, head_tailed, IsNone, opening_front, content_some, closing_some}
-use Rattle.h1_spec.proofs.Members.{own, interim_agrees, wrong_kind, body_all}
-use Rattle.h1_spec.proofs.Ordering.{its_place}
-use Rattle.h1_moments.specs.Seen.{Seen, interims_seen, head_seen, nothing_seen, start_with, seen_behind, moments_of, moments_in}
-use Rattle.h1_moments.proofs.Ahead.{IsSome, Ahead, the_end, a_byte, a_trailer, a_head, an_interim, state_ahead}
-use Rattle.h1_moments.proofs.Seeing.{seen-append, moments-append, head_stays, start_seen, tail_count, message_seen, message_moments, one_in, none_in, IsBeyond, are_beyond, interims_come}
-use Rattle.h1_moments.proofs.Wholes.{interim_in, closing_ends, among_moments}
+use Rattle.h1_spec.proofs.Members.{interim_agrees, body_all}
+use Rattle.h1_moments.proofs.Wholes.{closing_ends}
 
 -- ---- fronts of texts
 

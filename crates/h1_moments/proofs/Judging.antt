@@ -1,5 +1,5 @@
 -- What the moments of the items say of the answers of the translator.
-use Rattle.std.proofs.Common.{◌≡◌, ◌<◌, ◌≤◌, ◌+◌, ◌-◌, ◌⊎◌, ℕ, suc, Bool, List, [], ◌∷◌, ◌++◌, length, flat_map, take, drop, Option, Some, None, refl, sym, ap, ap₂, subst, ◌∙◌, inl, inr, append_assoc, append-nil, length-append, take-append-drop, length-drop, arith}
+use Rattle.std.proofs.Common.{◌≡◌, ◌<◌, ◌+◌, ◌-◌, ◌⊎◌, ℕ, Bool, List, [], ◌∷◌, ◌++◌, length, flat_map, take, drop, Option, Some, None, refl, sym, ap, subst, ◌∙◌, inl, inr, append_assoc, append-nil, length-append, take-append-drop, length-drop, arith}
 use Rattle.std.proofs.Math.Seq.{take-append_seam, take-length}
 use Rattle.std.specs.List.{Contains}
 use Rattle.std.proofs.lemmas.List.{take-append-le, length-take-le}
@@ -16,24 +16,22 @@ use Rattle.bh_spec.specs.Texts.{Text, bytes_of}
 use Rattle.bh_spec.specs.Answers.{refused, whole, IsAnswer}
 use Rattle.bh_spec.specs.Items.{Item, interim_response, head, content_byte, trailer_section, ending, start_items, tail_items, items}
 use Rattle.bh_spec.specs.Runs.{Takes, Call, bytes_taken, items_yielded}
-use Rattle.bh_spec.proofs.Marks.{bytes_of-append}
 use Rattle.bh_spec.proofs.Sections.{number_nonempty}
 use Rattle.bh_push.specs.Decoders.{At, Rest, in_framing}
 use Rattle.bh_push.specs.Standing.{Comes, IsPrompt}
-use Rattle.bh_push.specs.Pushes.{DecoderView, RefusesFirst, MissesAs, IsBehind, AnswersEveryCut}
+use Rattle.bh_push.specs.Pushes.{DecoderView, RefusesFirst, IsBehind, AnswersEveryCut}
 use Rattle.bh_spec.proofs.Runs.{exact_place}
 use Rattle.bh_push.proofs.Starting.{start_is}
 use Rattle.bh_push.proofs.Cuts.{one_answer_for_every_cut}
 use Rattle.bh_stream.specs.Decoding.{content_items}
 use Rattle.bh_stream.proofs.Moving.{items-append, bytes-length}
-use Rattle.h1_spec.specs.Http1Text.{Case}
 use Rattle.h1_spec.specs.Moments.{Moment, interim_ended, head_ended, content_read, trailers_ended, input_ended, cases_at, first_of, form_at}
-use Rattle.h1_spec.specs.Judging.{IsOpening, ComesAt, IsJudged, NoneIsJudged, IsJudgedAt, IsUnjudged, end_says, place_of}
-use Rattle.h1_spec.specs.Translation.{dead, formed, formless, IsIntoAnswer}
+use Rattle.h1_spec.specs.Judging.{IsOpening, ComesAt, IsJudged, NoneIsJudged, IsUnjudged, end_says, place_of}
+use Rattle.h1_spec.specs.Translation.{dead, IsIntoAnswer}
 use Rattle.h1_spec.proofs.Cases.{AreFree as AllFree, free_none, none_free, each_free}
 use Rattle.h1_moments.specs.Seen.{Seen, interims_seen, head_seen, nothing_seen, start_with, seen_behind, moments_of, moments_in}
-use Rattle.h1_moments.specs.Laws.{AreFree, form_with, NoneIsJudgedYet, LeadsToLast, JudgedThere, HasRead, RefusedWhereFree, MissedWhereFree, EndsAs, FinishedWhereFree}
-use Rattle.h1_moments.proofs.Seeing.{moments-append, tail_count, none_in}
+use Rattle.h1_moments.specs.Laws.{AreFree, form_with, NoneIsJudgedYet, JudgedThere, RefusedWhereFree, MissedWhereFree, EndsAs, FinishedWhereFree}
+use Rattle.h1_moments.proofs.Seeing.{moments-append, tail_count}
 use Rattle.h1_moments.proofs.Continuing.{start_count}
 use Rattle.h1_moments.proofs.Placing.{seen_late}
 use Rattle.h1_moments.proofs.Unseen.{none_comes_unseen}

@@ -17,33 +17,31 @@ use Rattle.bh_spec.specs.Integers.{vi, byte_count, limit_of}
 use Rattle.bh_spec.specs.Bytes.{AreBytes}
 use Rattle.bh_spec.specs.Messages.{Field, Interim, Start, request, response, kind_of, Message, IsInterim, IsStart, AreTrailers}
 use Rattle.bh_spec.specs.Texts.{Text, bytes_of, mark, IsNumber, AreEach, content_in}
-use Rattle.bh_spec.specs.Pieces.{IsText}
-use Rattle.bh_spec.specs.Sections.{IsSection}
 use Rattle.bh_spec.specs.Tails.{IsBody, IsTail}
 use Rattle.bh_spec.specs.Spelling.{IsInterimText, IsStartText, framing, Spells}
 use Rattle.bh_spec.specs.Residuals.{IsResidual}
 use Rattle.bh_spec.specs.Items.{Item, Head, of_response, interim_response, head, content_byte, trailer_section, ending, start_items, trailer_items, tail_items, items}
 use Rattle.bh_spec.proofs.Residuals.{residual_on}
-use Rattle.bh_spec.proofs.Sections.{number_nonempty, section_nonempty, body_nonempty}
+use Rattle.bh_spec.proofs.Sections.{section_nonempty}
 use Rattle.bh_spec.proofs.Widths.{length-vi}
 use Rattle.bh_spec.proofs.Within.{no_headers, within_less}
 use Rattle.bh_spec.proofs.Marks.{bytes_of-append, content-append, length-mark}
-use Rattle.bh_push.specs.Completing.{AfterStart, interim_item, ResponseRest}
-use Rattle.bh_push.specs.Decoders.{At, Rest, in_framing, in_status, behind_head, in_padding}
+use Rattle.bh_push.specs.Completing.{interim_item, ResponseRest}
+use Rattle.bh_push.specs.Decoders.{At, Rest, in_framing}
 use Rattle.bh_push.specs.Standing.{Comes, IsRight}
 use Rattle.bh_push.proofs.Starting.{start_is}
 use Rattle.bh_stream.specs.Decoding.{content_items}
 use Rattle.bh_stream.proofs.Moving.{items-append, bytes-length, content-few}
 use Rattle.bh_reading.specs.ContentLaws.{content_of_rest}
 use Rattle.h1_spec.specs.Http1.{interims_of}
-use Rattle.h1_spec.specs.Moments.{Moment, interim_ended, head_ended, content_read, trailers_ended, input_ended}
-use Rattle.h1_spec.specs.Judging.{IsOpening, IsInterims, IsContent, IsClosing, ComesAt}
+use Rattle.h1_spec.specs.Moments.{Moment, interim_ended, head_ended, content_read, trailers_ended}
+use Rattle.h1_spec.specs.Judging.{IsInterims, IsContent, IsClosing, ComesAt}
 use Rattle.h1_spec.proofs.Coming.{status, status_is, no_section, no_section_is}
 use Rattle.h1_spec.proofs.Members.{body_all}
 use Rattle.h1_spec.proofs.Unjudging.{weight, content_or_not}
 use Rattle.h1_moments.specs.Seen.{Seen, interims_seen, head_seen, nothing_seen, start_with, see, seen_behind, moments_of, moments_in}
-use Rattle.h1_moments.specs.Laws.{IsLast, LeadsToLast, ItsMomentComes}
-use Rattle.h1_moments.proofs.Ahead.{IsSome, last_status, last_section, last_long, last_items, last_response}
+use Rattle.h1_moments.specs.Laws.{LeadsToLast, ItsMomentComes}
+use Rattle.h1_moments.proofs.Ahead.{last_status, last_section, last_long, last_items, last_response}
 use Rattle.h1_moments.proofs.Seeing.{seen-append, tail_count, message_seen, one_in, none_in}
 use Rattle.h1_moments.proofs.Fronts.{longer, Parted, parted, head_ends, trailers_end, few_content}
 use Rattle.h1_moments.proofs.Continuing.{Continued, continued, ends_with, ends_front, content_so_far, start_count}

@@ -2,18 +2,15 @@
 use Rattle.std.proofs.Common.{◌≡◌, ◌+◌, ℕ, List, [], ◌∷◌, ◌++◌, map, refl, sym, ap, subst, ◌∙◌, append_assoc, arith}
 use Rattle.bh_spec.specs.declared.Omitted.{Omitted}
 use Rattle.bh_spec.specs.declared.Omitted.TheVariants.{Nothing, Trailers, Both}
-use Rattle.bh_spec.specs.Bounds.{Bounds}
 use Rattle.bh_spec.specs.Messages.{Field, Interim, Start, request, response, Message}
 use Rattle.bh_spec.specs.Items.{Item, Head, of_request, of_response, interim_response, head, content_byte, trailer_section, ending, start_items, trailer_items, tail_items, items}
 use Rattle.bh_push.specs.Completing.{interim_item}
-use Rattle.bh_push.specs.Decoders.{At, in_framing}
-use Rattle.bh_push.specs.Standing.{Comes}
 use Rattle.bh_stream.specs.Decoding.{content_items}
 use Rattle.bh_stream.proofs.Moving.{items-append}
 use Rattle.h1_moments.specs.Seen.{Seen, interims_seen, head_seen, nothing_seen, seen_behind}
 use Rattle.h1_moments.specs.Laws.{StandsBehind, StandsInPlace}
 use Rattle.h1_moments.proofs.Seeing.{seen-append, head_stays, start_seen, seen_interims}
-use Rattle.h1_moments.proofs.Continuing.{Continued, continued, start_count}
+use Rattle.h1_moments.proofs.Continuing.{continued, start_count}
 
 -- before a head, and behind one
 abbrev IsEarly : Item → Type 0

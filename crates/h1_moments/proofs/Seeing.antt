@@ -1,11 +1,11 @@
 -- What was seen of a message, item by item.
-use Rattle.std.proofs.Common.{◌≡◌, ◌<◌, ◌≤◌, ◌+◌, ◌⊎◌, ℕ, zero, suc, List, [], ◌∷◌, ◌++◌, length, map, refl, sym, ap, ap₂, subst, ◌∙◌, inl, inr, append_assoc, append-nil, length-append, arith}
+use Rattle.std.proofs.Common.{◌≡◌, ◌<◌, ◌≤◌, ◌+◌, ◌⊎◌, ℕ, suc, List, [], ◌∷◌, ◌++◌, length, map, refl, sym, ap, ap₂, subst, ◌∙◌, inl, inr, append_assoc, append-nil, arith}
 use Rattle.std.specs.List.{Contains}
-use Rattle.std.proofs.lemmas.List.Elements.{Contains-append_left, Contains-append_right, Contains-push_cases, Contains-append_cases}
+use Rattle.std.proofs.lemmas.List.Elements.{Contains-push_cases, Contains-append_cases}
 use Rattle.bh_spec.specs.declared.Omitted.{Omitted}
 use Rattle.bh_spec.specs.declared.Omitted.TheVariants.{Nothing, Trailers, Both}
 use Rattle.bh_spec.specs.Messages.{Field, Interim, Start, request, response, Message}
-use Rattle.bh_spec.specs.Items.{Item, Head, of_request, of_response, interim_response, head, content_byte, trailer_section, ending, start_items, trailer_items, tail_items, items}
+use Rattle.bh_spec.specs.Items.{Item, of_response, interim_response, head, content_byte, trailer_section, ending, start_items, trailer_items, tail_items, items}
 use Rattle.bh_push.specs.Completing.{interim_item}
 use Rattle.bh_stream.specs.Decoding.{content_items}
 use Rattle.bh_stream.proofs.Moving.{items-append, items-map}

@@ -1,5 +1,5 @@
 -- No moment comes unseen: where one comes at a front of bytes that lead to a prompt state, its item was handed out.
-use Rattle.std.proofs.Common.{◌≡◌, ◌<◌, ◌≤◌, ◌+◌, ◌⊎◌, ℕ, zero, suc, List, [], ◌∷◌, ◌++◌, length, map, refl, sym, ap, ap₂, subst, ◌∙◌, inl, inr, append_assoc, append-nil, length-append, arith}
+use Rattle.std.proofs.Common.{◌≡◌, ◌≤◌, ◌⊎◌, ℕ, List, [], ◌∷◌, ◌++◌, length, map, refl, sym, ap, subst, ◌∙◌, inl, inr, append_assoc, append-nil, length-append, arith}
 use Rattle.std.specs.List.{Contains}
 use Rattle.std.proofs.lemmas.List.{same_from_push}
 use Rattle.std.proofs.lemmas.List.Elements.{Contains-append_cases}
@@ -12,30 +12,28 @@ use Rattle.bh_spec.specs.declared.Width.{Width}
 use Rattle.bh_spec.specs.declared.Width.TheVariants.{One, Two, Four, Eight}
 use Rattle.bh_spec.specs.Bounds.{Bounds}
 use Rattle.bh_spec.specs.Integers.{vi, byte_count}
-use Rattle.bh_spec.specs.Messages.{Field, Interim, Start, request, response, Message}
+use Rattle.bh_spec.specs.Messages.{Field, Interim, response, Message}
 use Rattle.bh_spec.specs.Texts.{Text, bytes_of, IsNumber, content_in}
 use Rattle.bh_spec.specs.Sections.{IsSection}
 use Rattle.bh_spec.specs.Tails.{IsTail}
 use Rattle.bh_spec.specs.Spelling.{Spells}
-use Rattle.bh_spec.specs.Items.{Item, Head, of_request, of_response, interim_response, head, content_byte, trailer_section, ending, start_items, trailer_items, tail_items, items}
+use Rattle.bh_spec.specs.Items.{Item, Head, of_response, head, content_byte, trailer_section, ending}
 use Rattle.bh_spec.proofs.Widths.{length-vi}
-use Rattle.bh_spec.proofs.Marks.{bytes_of-append, content-append, length-mark}
+use Rattle.bh_spec.proofs.Marks.{bytes_of-append, length-mark}
 use Rattle.bh_push.specs.Completing.{interim_item}
 use Rattle.bh_push.specs.Decoders.{At, Rest, in_framing}
-use Rattle.bh_push.specs.Standing.{Comes, IsPrompt}
-use Rattle.bh_push.proofs.Starting.{start_is}
+use Rattle.bh_push.specs.Standing.{Comes}
 use Rattle.bh_stream.specs.Decoding.{content_items}
-use Rattle.bh_stream.proofs.Moving.{items-append, bytes-length}
-use Rattle.bh_reading.specs.ContentLaws.{content_of_rest}
+use Rattle.bh_stream.proofs.Moving.{bytes-length}
 use Rattle.h1_spec.specs.Http1.{interims_of}
-use Rattle.h1_spec.specs.Moments.{Moment, interim_ended, head_ended, content_read, trailers_ended, input_ended, moments}
+use Rattle.h1_spec.specs.Moments.{Moment, interim_ended, head_ended, content_read, trailers_ended, input_ended}
 use Rattle.h1_spec.specs.Judging.{IsInterims, ComesAt}
 use Rattle.h1_spec.proofs.Members.{own}
 use Rattle.h1_spec.proofs.Ordering.{its_place}
-use Rattle.h1_moments.specs.Seen.{Seen, interims_seen, head_seen, nothing_seen, start_with, seen_behind, moments_of, moments_in}
+use Rattle.h1_moments.specs.Seen.{Seen, interims_seen, head_seen, nothing_seen, start_with, seen_behind, moments_in}
 use Rattle.h1_moments.specs.Laws.{NoneComesUnseen}
 use Rattle.h1_moments.proofs.Ahead.{IsSome, Ahead, the_end, a_byte, a_trailer, a_head, an_interim, state_ahead}
-use Rattle.h1_moments.proofs.Seeing.{seen-append, moments-append, head_stays, start_seen, tail_count, message_seen, message_moments, one_in, none_in, IsBeyond, are_beyond, interims_come}
+use Rattle.h1_moments.proofs.Seeing.{seen-append, moments-append, message_seen, message_moments, one_in, none_in, IsBeyond, are_beyond, interims_come}
 use Rattle.h1_moments.proofs.Wholes.{interim_in, among_moments}
 use Rattle.h1_moments.proofs.Continuing.{Continued, continued, ends_with, content_so_far}
 use Rattle.h1_moments.proofs.Placing.{seen_late}

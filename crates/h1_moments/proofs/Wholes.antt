@@ -1,5 +1,5 @@
 -- What comes at a front of a message's bytes is a moment of the message.
-use Rattle.std.proofs.Common.{◌≡◌, ◌<◌, ◌≤◌, ◌+◌, ◌⊎◌, ℕ, zero, suc, List, [], ◌∷◌, ◌++◌, length, map, replicate, refl, sym, ap, ap₂, subst, ◌∙◌, inl, inr, append_assoc, append-nil, length-append, arith}
+use Rattle.std.proofs.Common.{◌≡◌, ◌<◌, ◌≤◌, ◌⊎◌, ℕ, zero, suc, List, [], ◌∷◌, ◌++◌, length, map, replicate, refl, sym, ap, ap₂, subst, ◌∙◌, inl, inr, append_assoc, append-nil, length-append, arith}
 use Rattle.std.specs.List.{Contains}
 use Rattle.std.proofs.lemmas.Bool.{cases_lt}
 use Rattle.std.proofs.lemmas.List.Elements.{Contains-append_left, Contains-append_right, Contains-push}
@@ -10,18 +10,16 @@ use Rattle.bh_spec.specs.declared.Part.TheVariants as parts
 use Rattle.bh_spec.specs.Bounds.{Bounds}
 use Rattle.bh_spec.specs.Messages.{Field, Interim, Start, Message, AreTrailers}
 use Rattle.bh_spec.specs.Texts.{Text, bytes_of, mark}
-use Rattle.bh_spec.specs.Sections.{IsSection}
-use Rattle.bh_spec.specs.Tails.{IsBody, IsTail}
-use Rattle.bh_spec.specs.Spelling.{Spells}
+use Rattle.bh_spec.specs.Tails.{IsTail}
 use Rattle.bh_spec.specs.Viable.{SpellsBytes}
-use Rattle.bh_spec.proofs.Meeting.{Meets, meets_front}
+use Rattle.bh_spec.proofs.Meeting.{meets_front}
 use Rattle.bh_spec.proofs.Sections.{section_agrees, section_nonempty, body_agrees}
 use Rattle.bh_spec.proofs.Whole.{trailers_named}
 use Rattle.bh_spec.proofs.Marks.{bytes_of-append}
 use Rattle.bh_stream.proofs.Moving.{bytes-length}
 use Rattle.h1_spec.specs.Http1.{interims_of}
 use Rattle.h1_spec.specs.Moments.{Moment, interim_ended, head_ended, content_read, trailers_ended, input_ended, byte_moments, last_moment, moments}
-use Rattle.h1_spec.specs.Judging.{IsOpening, IsContent, IsClosing, ComesAt}
+use Rattle.h1_spec.specs.Judging.{IsContent, IsClosing, ComesAt}
 use Rattle.h1_spec.proofs.Coming.{tailed, head_tailed, IsNone, closing_some}
 use Rattle.h1_spec.proofs.Members.{own, behind, content_few, content_one}
 use Rattle.h1_spec.proofs.Ordering.{its_place}

@@ -14,8 +14,8 @@ use Rattle.bh_push.specs.Pushes.{DecoderView, RefusesFirst, MissesAs}
 use Rattle.bh_stream.specs.Decoding.{content_items}
 use Rattle.h1_spec.specs.Moments.{Moment, cases_at, first_of}
 use Rattle.h1_spec.specs.Judging.{ComesAt, NoneIsJudged, IsJudgedAt}
-use Rattle.h1_spec.specs.Translation.{IntoAnswer, formed, dead, formless, IsIntoAnswer}
-use Rattle.h1_moments.specs.Seen.{Seen, interims_seen, head_seen, nothing_seen, seen_behind, moments_of, moments_in}
+use Rattle.h1_spec.specs.Translation.{formed, dead, formless, IsIntoAnswer}
+use Rattle.h1_moments.specs.Seen.{interims_seen, head_seen, nothing_seen, seen_behind, moments_of, moments_in}
 
 -- ---- no moment comes unseen
 

@@ -1,17 +1,12 @@
 -- Lines that are added one behind another.
 use Rattle.std.proofs.Common.{◌≡◌, ◌≤◌, ◌<◌, ◌+◌, ℕ, zero, suc, List, [], ◌∷◌, ◌++◌, Some, None, drop, slice_get, length, refl, ap, subst, sym, ◌∙◌, append_assoc, append-nil, arith}
 use Rattle.std.specs.List.{All}
-use Rattle.std.proofs.lemmas.List.{length-append}
 use Rattle.std.proofs.lemmas.List.Elements.{All-head, All-tail, All-cons}
 use Rattle.bh_spec.specs.Messages.{Field}
-use Rattle.bh_model.specs.Lines.{FieldsView, line_room, lines_room, making_room, making_count}
-use Rattle.h1_head.specs.Room.{room_in, count_in}
+use Rattle.bh_model.specs.Lines.{FieldsView, line_room, lines_room}
+use Rattle.h1_head.proofs.Rooms.{grown}
 use Rattle.h1_rules.specs.Own.{IsNamed, IsAdding}
 use Rattle.h1_rules.proofs.Values.{drop_line}
-
-lines_room-append : (a b : List Field) → lines_room (a ++ b) ≡ lines_room a + lines_room b
-lines_room-append [] b = omega arith
-lines_room-append (line ∷ rest) b = omega (arith, lines_room-append rest b)
 
 -- no line is there yet
 pub none_added : (to : FieldsView) (all : List Field) → to.lines ≡ [] → to.making ≡ None → lines_room all ≤ to.spare → length all ≤ to.free → IsAdding to to all all
@@ -31,42 +26,24 @@ next_room start to left all line rest e h =
     (omega (arith, room, h.spare), omega (arith, count, h.free))
 
 -- and it was added
-pub added : (start to grown : FieldsView) (left all : List Field) (line : Field) (rest : List Field) → left ≡ line ∷ rest → grown.lines ≡ to.lines ++ line ∷ []
-    → grown.making ≡ None → grown.spare + line_room line ≡ to.spare → grown.free + 1 ≡ to.free → IsAdding start to left all → IsAdding start grown rest all
-added start to grown left all line rest e lines ended spare free h =
+pub added : (start to more : FieldsView) (left all : List Field) (line : Field) (rest : List Field) → left ≡ line ∷ rest → more.lines ≡ to.lines ++ line ∷ []
+    → more.making ≡ None → more.spare + line_room line ≡ to.spare → more.free + 1 ≡ to.free → IsAdding start to left all → IsAdding start more rest all
+added start to more left all line rest e lines ended spare free h =
     let room = ap lines_room e in
     let count = ap (λ (ls : List Field). length ls) e in
-    let used = ap lines_room lines in
-    let many = ap (λ (ls : List Field). length ls) lines in
-    let room_before = ap making_room h.ended in
-    let room_behind = ap making_room ended in
-    let count_before = ap making_count h.ended in
-    let count_behind = ap making_count ended in
+    let same = grown to more line h.ended lines ended spare free in
     record {
       lines = ap (λ (ls : List Field). ls ++ rest) lines ∙ append_assoc to.lines (line ∷ []) rest ∙ ap (λ (ls : List Field). to.lines ++ ls) (sym e) ∙ h.lines;
       ended = ended;
       spare = omega (arith, room, h.spare, spare);
       free = omega (arith, count, h.free, free);
-      room = omega (arith, used, lines_room-append to.lines (line ∷ []), spare, h.room);
-      count = omega (arith, many, length-append to.lines (line ∷ []), free, h.count);
+      room = same.room ∙ h.room;
+      count = same.count ∙ h.count;
     }
 
 -- where none is left, the lines are all
 pub lines_added : (start to : FieldsView) (all : List Field) → IsAdding start to [] all → to.lines ≡ all
 lines_added start to all h = sym (append-nil to.lines) ∙ h.lines
-
--- lines that were dropped gave their room back
-pub record IsCleared (old new : FieldsView) : Type 0 where
-  pub room : room_in new ≡ room_in old
-  pub count : count_in new ≡ count_in old
-
-pub cleared : (old new : FieldsView) → new.lines ≡ [] → new.making ≡ None → new.spare ≡ room_in old → new.free ≡ count_in old → IsCleared old new
-cleared old new empty ended spare free =
-    let room = ap lines_room empty in
-    let count = ap (λ (ls : List Field). length ls) empty in
-    let making = ap making_room ended in
-    let made = ap making_count ended in
-    record { room = omega arith; count = omega arith }
 
 -- ---- names
 

@@ -7,3 +7,4 @@ pub mod Adding
 pub mod FramingLemmas
 pub mod Rules
 pub mod Named
+pub mod Within

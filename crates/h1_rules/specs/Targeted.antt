@@ -10,7 +10,7 @@ use Rattle.h1_spec.specs.Heads.{StartLine, request_line, status_line, Head}
 use Rattle.h1_spec.specs.Targets.{IsTargetOf, IsAbsoluteForm, HasHost}
 use Rattle.h1_rules.specs.declared.targets.TargetWhy.{TargetWhy}
 use Rattle.h1_rules.specs.declared.targets.TargetWhy.TheVariants.{Connect, Target, Host, NoMemory}
-use Rattle.h1_rules.specs.declared.targets.Parts.{Parts}
+use Rattle.h1_rules.specs.declared.targets.TargetParts.{TargetParts}
 
 abbrev pub IsRequest : StartLine → Type 0
 IsRequest (request_line method target) = Unit {0}
@@ -23,15 +23,40 @@ IsConnect method = method ≡ codes "CONNECT"
 abbrev pub HasNoForm : Scheme1 → List ℕ → List ℕ → Type 0
 HasNoForm scheme method target = (control : Control) → IsTargetOf scheme method target control → ⊥
 
--- The control data that a request's target says; or the first of the three rules that doesn't hold.
-abbrev pub IsControlAnswer : Scheme1 → List ℕ → List ℕ → List Field → Result stored.Control TargetWhy → Type 0
-IsControlAnswer scheme method target fields (Ok control) = (IsConnect method → ⊥) × IsTargetOf scheme method target (control_of control)
-    × HasHost (control_of control) fields
-IsControlAnswer scheme method target fields (Err Connect) = IsConnect method
-IsControlAnswer scheme method target fields (Err Target) = (IsConnect method → ⊥)
-    × HasNoForm scheme method target
-IsControlAnswer scheme method target fields (Err Host) = (IsConnect method → ⊥)
+-- the control data of a request with this method, of the parts that its target has
+abbrev pub control_by : List ℕ → TargetParts → Control
+control_by method parts = record {
+  method = method;
+  scheme = parts.scheme.now;
+  authority = parts.authority.now;
+  path = parts.front.now ++ parts.rest.now;
+}
+
+-- the target and the fields say this control data
+pub record SaysControl (scheme : Scheme1) (method target : List ℕ) (fields : List Field) (control : Control) : Type 0 where
+  pub no_connect : IsConnect method → ⊥
+  pub form : IsTargetOf scheme method target control
+  pub host : HasHost control fields
+
+-- The first of the three rules that doesn't hold.
+abbrev pub IsWhy : Scheme1 → List ℕ → List ℕ → List Field → TargetWhy → Type 0
+IsWhy scheme method target fields Connect = IsConnect method
+IsWhy scheme method target fields Target = (IsConnect method → ⊥) × HasNoForm scheme method target
+IsWhy scheme method target fields Host = (IsConnect method → ⊥)
     × ((control : Control) × IsTargetOf scheme method target control × (HasHost control fields → ⊥))
+IsWhy scheme method target fields NoMemory = ⊥
+
+-- The control data that a request's target says, as its parts; or the first of the three rules that doesn't hold.
+abbrev pub IsPartsAnswer : Scheme1 → List ℕ → List ℕ → List Field → Result TargetParts TargetWhy → Type 0
+IsPartsAnswer scheme method target fields (Ok parts) = SaysControl scheme method target fields (control_by method parts)
+IsPartsAnswer scheme method target fields (Err why) = IsWhy scheme method target fields why
+
+-- The same in memory of its own, for which there may be none.
+abbrev pub IsControlAnswer : Scheme1 → List ℕ → List ℕ → List Field → Result stored.Control TargetWhy → Type 0
+IsControlAnswer scheme method target fields (Ok control) = SaysControl scheme method target fields (control_of control)
+IsControlAnswer scheme method target fields (Err Connect) = IsWhy scheme method target fields Connect
+IsControlAnswer scheme method target fields (Err Target) = IsWhy scheme method target fields Target
+IsControlAnswer scheme method target fields (Err Host) = IsWhy scheme method target fields Host
 IsControlAnswer scheme method target fields (Err NoMemory) = Unit {0}
 
 abbrev pub AnswersStart : Scheme1 → StartLine → List Field → Result stored.Control TargetWhy → Type 0
@@ -40,15 +65,6 @@ AnswersStart scheme (status_line status) fields result = ⊥
 
 abbrev pub IsTargetAnswer : Scheme1 → Head → Result stored.Control TargetWhy → Type 0
 IsTargetAnswer scheme head result = AnswersStart scheme head.start head.fields result
-
--- the control data of a request with this method, of the parts that its target has
-abbrev pub control_by : List ℕ → Parts → Control
-control_by method parts = record {
-  method = method;
-  scheme = parts.scheme.now;
-  authority = parts.authority.now;
-  path = parts.front.now ++ parts.rest.now;
-}
 
 -- a star for OPTIONS, or a path
 abbrev pub IsBare : List ℕ → List ℕ → Type 0

@@ -5,7 +5,7 @@ ghost use Rattle.bh_spec.specs.Messages.{IsWeb};
 ghost use Rattle.bh_model.specs.Values.{control_of as control_in};
 ghost use Rattle.h1_spec.specs.Targets.{IsTargetOf, IsAbsoluteForm, IsPathOrQuery, scheme_of as scheme_bytes, path_behind};
 ghost use Rattle.h1_head.specs.Parsed.{head_of};
-ghost use Rattle.h1_rules.specs.Targeted.{IsRequest, IsTargetAnswer, IsControlAnswer, HasNoForm, NamesNoScheme, control_by, IsBare, IsSchemed, IsHost, IsSomeAuthority, Ends};
+ghost use Rattle.h1_rules.specs.Targeted.{IsRequest, IsTargetAnswer, IsPartsAnswer, IsControlAnswer, HasNoForm, NamesNoScheme, control_by, IsBare, IsSchemed, IsHost, IsSomeAuthority, Ends};
 
 use crate::lines::{Only, only_value};
 use bh_base::NoMemory;
@@ -27,13 +27,13 @@ pub enum TargetWhy {
     NoMemory,
 }
 
-/// What a target says: scheme and authority, and a path of what the target leaves out and of what it has.
+/// What a target says: scheme and authority, and the path in two parts, what the target leaves out of it and what it has.
 #[derive(Clone, Copy)]
-struct Parts<'a> {
-    scheme: &'a [u8],
-    authority: &'a [u8],
-    front: &'a [u8],
-    rest: &'a [u8],
+pub struct TargetParts<'a> {
+    pub scheme: &'a [u8],
+    pub authority: &'a [u8],
+    pub front: &'a [u8],
+    pub rest: &'a [u8],
 }
 
 /// The control data that the head of a request says, with this scheme where its target names none. The target is `*` with the
@@ -62,6 +62,24 @@ fn control_of(
 ) -> Result<Control, TargetWhy>
     ensures { IsControlAnswer scheme method.now target.now fields.now.lines result }
 {
+    match target_parts(scheme, method, target, fields) {
+        Ok(parts) => match keep(alloc, method, parts) {
+            Ok(control) => Ok(control),
+            Err(_) => Err(TargetWhy::NoMemory),
+        },
+        Err(why) => Err(why),
+    }
+}
+
+/// The parts of the control data that a method, a target and the fields say, as `target_of`. It takes no memory.
+pub fn target_parts<'a>(
+    scheme: Scheme1,
+    method: &[u8],
+    target: &'a [u8],
+    fields: &Fields,
+) -> Result<TargetParts<'a>, TargetWhy>
+    ensures { IsPartsAnswer scheme method.now target.now fields.now.lines result }
+{
     if method == b"CONNECT".as_slice() {
         return Err(TargetWhy::Connect);
     }
@@ -71,14 +89,11 @@ fn control_of(
     if !has_host(fields, parts.authority) {
         return Err(TargetWhy::Host);
     }
-    match keep(alloc, method, parts) {
-        Ok(control) => Ok(control),
-        Err(_) => Err(TargetWhy::NoMemory),
-    }
+    Ok(parts)
 }
 
 /// A copy of the method and of the parts of the target.
-fn keep(alloc: Global, method: &[u8], parts: Parts<'_>) -> Result<Control, NoMemory>
+fn keep(alloc: Global, method: &[u8], parts: TargetParts<'_>) -> Result<Control, NoMemory>
     ensures { IfOk result (λ control. control_in control ≡ control_by method.now parts.entry) }
 {
     Ok(Control {
@@ -99,12 +114,12 @@ fn joined(alloc: Global, front: &[u8], rest: &[u8]) -> Result<Bytes, NoMemory>
 }
 
 /// What a target says, if it has one of the forms.
-fn parts_of<'a>(scheme: Scheme1, method: &[u8], target: &'a [u8]) -> Option<Parts<'a>>
+fn parts_of<'a>(scheme: Scheme1, method: &[u8], target: &'a [u8]) -> Option<TargetParts<'a>>
     ensures found { IfSome result (λ parts. IsTargetOf scheme method.now target.now (control_by method.now parts)) }
     ensures none { IfNone result (HasNoForm scheme method.now target.now) }
 {
     if is_bare(method, target) {
-        return Some(Parts {
+        return Some(TargetParts {
             scheme: scheme_of(scheme),
             authority: b"",
             front: b"",
@@ -153,7 +168,7 @@ pub(crate) fn is_authority(bytes: &[u8]) -> bool
 }
 
 /// What a target of scheme and authority says.
-fn absolute<'a>(method: &[u8], target: &'a [u8]) -> Option<Parts<'a>>
+fn absolute<'a>(method: &[u8], target: &'a [u8]) -> Option<TargetParts<'a>>
     ensures found { IfSome result (λ parts. IsAbsoluteForm method.now target.now (control_by method.now parts)) }
     ensures none { IfNone result (NamesNoScheme method.now target.now) }
 {
@@ -167,7 +182,7 @@ fn absolute<'a>(method: &[u8], target: &'a [u8]) -> Option<Parts<'a>>
     if !is_path(rest) {
         return None;
     }
-    Some(Parts {
+    Some(TargetParts {
         scheme,
         authority,
         front: front_of(method, rest),

@@ -1,5 +1,5 @@
 use super::*;
-use bh_model::{Control, Fields, H1Why};
+use bh_model::{Control, Fields, H1Why, Limits, NoForm};
 use h1_head::{HeadWhy, StartLine, parse_head};
 use std::alloc::{AllocError, Global};
 
@@ -309,6 +309,89 @@ fn bodies_end_as_their_heads_say(rt: HostRuntime) -> Result<(), HeadWhy> {
     ];
     for (bytes, to_head, told) in rows {
         let answer = framed(rt.alloc(), bytes, to_head)?;
+        assert_eq!(rt; answer, told);
+    }
+    Ok(())
+}
+
+/// A section of these lines.
+fn section(alloc: Global, lines: &[(&[u8], &[u8])]) -> Result<Fields, HeadWhy> {
+    let mut fields = Fields::with_room(alloc, 300, 10)?;
+    for &(name, value) in lines {
+        if name.is_empty() || name.len() > 300 || value.len() > 300 {
+            return Err(HeadWhy::Form);
+        }
+        if fields.free() == 0 || fields.spare() < name.len() + value.len() + 2 {
+            return Err(HeadWhy::NoMemory);
+        }
+        fields.push_line(name, value);
+    }
+    Ok(fields)
+}
+
+/// Why a final response with this header section has no form.
+fn formed(alloc: Global, lines: &[(&[u8], &[u8])]) -> Result<Option<NoForm>, HeadWhy> {
+    let fields = section(alloc, lines)?;
+    let hops = hops_of(alloc, &fields)?;
+    let cleaned = clean(alloc, &fields, &hops, false)?;
+    Ok(form_of_response(&fields, &cleaned))
+}
+
+#[test]
+fn sections_without_a_form_are_told(rt: HostRuntime) -> Result<(), HeadWhy> {
+    let rows: [(&[(&[u8], &[u8])], Option<NoForm>); 7] = [
+        (&[(b"content-length", b"12"), (b"a", b"\xff\t")], None),
+        (&[(b":a", b""), (b"b", b"\x01")], Some(NoForm::Pseudo)),
+        (
+            &[(b"a", b"\x01"), (b"content-length", b"x")],
+            Some(NoForm::ValueByte),
+        ),
+        // a line of the connection has no form to keep
+        (&[(b"connection", b"a"), (b"a", b"\x01")], None),
+        (
+            &[(b"content-length", b"1"), (b"content-length", b"1")],
+            Some(NoForm::LengthField),
+        ),
+        (
+            &[(b"content-length", b"1234567890123456789")],
+            Some(NoForm::LengthField),
+        ),
+        (&[(b"host", b"a"), (b"host", b"b")], None),
+    ];
+    for (lines, told) in rows {
+        let form = formed(rt.alloc(), lines)?;
+        assert_eq!(rt; form, told);
+    }
+    Ok(())
+}
+
+/// Whether a section fits where a name and a value may have 16 bytes, and its lines 40.
+fn fitting(alloc: Global, lines: &[(&[u8], &[u8])]) -> Result<bool, HeadWhy> {
+    let fields = section(alloc, lines)?;
+    match Limits::new(16, 40, 0, 1) {
+        Some(limits) => Ok(fits(&fields, &limits)),
+        None => Err(HeadWhy::Form),
+    }
+}
+
+#[test]
+fn lengths_count_where_sections_fit(rt: HostRuntime) -> Result<(), HeadWhy> {
+    let rows: [(&[(&[u8], &[u8])], bool); 5] = [
+        (&[], true),
+        (&[(b"a234567890123456", b"a234567890123456")], true),
+        (&[(b"a", b"a2345678901234567")], false),
+        // 40 bytes, and 41
+        (
+            &[(b"a234567890123456", b"a234567890123456"), (b"a", b"b23")],
+            true,
+        ),
+        (
+            &[(b"a234567890123456", b"a234567890123456"), (b"a", b"b234")],
+            false,
+        ),
+    ];
+    for (lines, told) in rows {
+        let answer = fitting(rt.alloc(), lines)?;
         assert_eq!(rt; answer, told);
     }
     Ok(())

@@ -23,12 +23,12 @@ add_fields-requires-clause-free c =
     let e = ap (length {A = HeaderSpan}) c.front.ensures in
     omega (arith, r, n, e)
 
-pub returns-in-Some : goal.returns-in-Some
-returns-in-Some c = (
+pub returns-in-Some-clause-fills : goal.returns-in-Some-clause-fills
+returns-in-Some-clause-fills c = (
   read_section c.args.section.now _ _ _ (all_bytes c.args.section.now (λ i. (c.type_inv.section i).fits)) (c.requires.even.returns ∙ c.requires.even.feeds) c.in-Some.ensures.read
       (rw c.front.ensures at c.add_fields.ensures.lines),
   c.add_fields.ensures.ended,
 )
 
-pub returns-in-None : goal.returns-in-None
-returns-in-None c = unread c.args.section.now _ c.requires.even.feeds c.in-None.ensures.none
+pub returns-in-None-clause-fills : goal.returns-in-None-clause-fills
+returns-in-None-clause-fills c = unread c.args.section.now _ c.requires.even.feeds c.in-None.ensures.none

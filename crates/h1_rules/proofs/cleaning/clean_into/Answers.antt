@@ -1,7 +1,8 @@
 use Rattle.std.proofs.Common.{◌∙◌, false, refl, arith}
 use Rattle.h1_spec.specs.Cleaning.{values_of, cookie, crumbs}
 use Rattle.h1_rules.specs.Own.{dropped_names, own_lines}
-use Rattle.h1_rules.proofs.Adding.{none_added, lines_added, cleared}
+use Rattle.h1_head.proofs.Rooms.{cleared}
+use Rattle.h1_rules.proofs.Adding.{none_added, lines_added}
 use Rattle.h1_rules.proofs.Cookies.{own_clean, own_room}
 use Rattle.h1_rules.proofs.cleaning.clean_into.Goals as goal
 

@@ -1,7 +1,8 @@
 use Rattle.std.proofs.Common.{◌∙◌, arith}
 use Rattle.h1_spec.specs.Cleaning.{without}
 use Rattle.h1_rules.specs.Own.{dropped_trailers}
-use Rattle.h1_rules.proofs.Adding.{none_added, lines_added, cleared}
+use Rattle.h1_head.proofs.Rooms.{cleared}
+use Rattle.h1_rules.proofs.Adding.{none_added, lines_added}
 use Rattle.h1_rules.proofs.Cookies.{without_room, without_count}
 use Rattle.h1_rules.proofs.cleaning.clean_trailers_into.Goals as goal
 
