@@ -70,8 +70,8 @@ IntoEnds L to_head end.WriteFault steps = StopsAt is_bad_write steps
 
 -- A call that translates a message: at every point of its calls what was given begins what is written of every message that continues
 -- what was taken.
-pub record IntoCall (L : Bounds) (to_head : Bool) {S : Type 0} (read write : S → Step → S → Type 0) (s : S) (r : End Summary IntoWhy) (t : S)
-    : Type 0 where
+pub record IntoCall (L : Bounds) (to_head : Bool) {S : Type 0} (read write : S → Step → S → Type 0) (s : S) (r : End Summary IntoWhy)
+    (t : S) : Type 0 where
   pub steps : List Step
   pub call : PortCall L.input (GivesFronts L (sent_text to_head)) (IntoEnds L to_head) read write steps s r t
 

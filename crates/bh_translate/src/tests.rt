@@ -43,10 +43,12 @@ fn messages_get_their_texts(rt: HostRuntime) -> Result<(), NoMemory> {
     let rows: [(&[u8], bool, IntoEnd, &[u8]); 5] = [
         // The first example of RFC 9292.
         (
-            b"\x02\x03GET\x05https\x00\x0a/hello.txt\x0auser-agent\x34curl/7.16.3 libcurl/7.16.3 OpenSSL/0.9.7l zlib/1.2.3\x04host\x0fwww.example.com\x0faccept-language\x06en, mi\x00\x00\x00",
+            b"\x02\x03GET\x05https\x00\x0a/hello.txt\x0auser-agent\x34curl/7.16.3 libcurl/7.16.3 OpenSSL/0.9.7l zlib/1.2.3\
+              \x04host\x0fwww.example.com\x0faccept-language\x06en, mi\x00\x00\x00",
             false,
             done(Kind::Request, 134, 3, 0, Omitted::Nothing),
-            b"GET /hello.txt HTTP/1.1\r\nuser-agent: curl/7.16.3 libcurl/7.16.3 OpenSSL/0.9.7l zlib/1.2.3\r\nhost: www.example.com\r\naccept-language: en, mi\r\n\r\n",
+            b"GET /hello.txt HTTP/1.1\r\nuser-agent: curl/7.16.3 libcurl/7.16.3 OpenSSL/0.9.7l zlib/1.2.3\r\n\
+              host: www.example.com\r\naccept-language: en, mi\r\n\r\n",
         ),
         // Content of unknown length, behind joined cookies, and a trailer section.
         (

@@ -108,7 +108,8 @@ impl Judge {
     fn clean_header(&mut self, fields: &Fields, says_host: bool)
         requires room { HasRoomOf self.old fields.now.lines }
         requires named { All IsNamed fields.now.lines }
-        ensures { IsCleaned self.old (hops_named fields.now.lines) (clean (hops_named fields.now.lines) says_host fields.now.lines) self.new }
+        ensures { let hops = hops_named fields.now.lines in
+            IsCleaned self.old hops (clean hops says_host fields.now.lines) self.new }
     {
         self.hops.read(fields);
         clean_into(fields, &self.hops, says_host, &mut self.cleaned);
@@ -117,7 +118,8 @@ impl Judge {
     /// Keeps which body a head without a fault says.
     fn announce(&mut self, status: Option<u16>, fields: &Fields)
         requires { IsTrue (is_length (lengths fields.now.lines)) }
-        ensures framing { (start : Start) → status_in start ≡ status → self.new.framing ≡ announced self.old.to_head start fields.now.lines }
+        ensures framing { (start : Start) → status_in start ≡ status
+            → self.new.framing ≡ announced self.old.to_head start fields.now.lines }
         ensures counting { IsCounting self.new.framing self.new.counted }
         ensures counted { self.new.counted ≡ 0 }
         ensures to_head { self.new.to_head ≡ self.old.to_head }
