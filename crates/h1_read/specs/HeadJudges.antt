@@ -1,5 +1,5 @@
 -- The judge of one whole head: what is kept of it, and what its calls answer.
-use Rattle.std.specs.Prelude.{ℕ, ◌≡◌, ◌<◌, ◌≤◌, ◌+◌, ◌*◌, ◌^◌, Bool, Option, Some, None, Result, Ok, Err, List, [], length, vec_len}
+use Rattle.std.specs.Prelude.{ℕ, ◌≡◌, ◌<◌, ◌≤◌, ◌+◌, ◌*◌, ◌^◌, Bool, false, Option, Some, None, Result, Ok, Err, List, [], length, vec_len}
 use Rattle.bh_spec.specs.Bounds.{Bounds, IsWithin}
 use Rattle.bh_spec.specs.Messages.{Field, Control, Interim}
 use Rattle.bh_spec.specs.Canonical.{ControlFits, FieldsFit}
@@ -172,14 +172,3 @@ pub record IsTrailing (v : JudgeView) (trailers : List Field) (w : JudgeView) : 
   pub head : w.head ≡ v.head
   pub named : w.named ≡ v.named
   pub lines : w.lines ≡ clean_trailers v.named trailers
-
--- TEMP
-abbrev pub status_shown : Option Said → Option ℕ
-status_shown None = None
-status_shown (Some (of_request control)) = None
-status_shown (Some (of_response status)) = Some status
-
-abbrev pub control_shown : Option Said → Option Control
-control_shown None = None
-control_shown (Some (of_request control)) = Some control
-control_shown (Some (of_response status)) = None
