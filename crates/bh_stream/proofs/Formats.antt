@@ -90,7 +90,9 @@ module _ {M : Type 0} {spelled : M → Text → Type 0} {items_of : M → List I
         → KeepsUp (SomeOf spelled) Shown (most + one_read) most h.steps
     keeps_up Shown shown h = keeps_so_far Shown (record {
       so_far = λ bytes i w moved q t k front due. let d = due q in outs (i ++ q) t k front d.rest d.split;
-      at_end = λ bytes i w moved omitted padding t k front due. outs (i ++ ending omitted padding ∷ []) t k front due.rest due.split;
+      at_end = λ bytes i w moved omitted padding whole front due.
+          let residual = (laws.leads v w bytes i moved).residual in
+          outs (i ++ ending omitted padding ∷ []) (residual.text ++ []) (residual.back (ending omitted padding ∷ []) [] whole) front due.rest due.split;
     }) h
       where
         outs : (q : List Item) (t : Text) → rest v q t → (front more : Output) → owed q ≡ front ++ more → (n : ℕ) → Shown (written front) n → shown_in front ≤ n

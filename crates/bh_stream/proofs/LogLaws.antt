@@ -7,7 +7,7 @@ use Rattle.bh_spec.specs.Texts.{Text, bytes_of, content_in}
 use Rattle.bh_spec.specs.Pieces.{CanBecome, IsText}
 use Rattle.bh_spec.specs.Items.{Item, ending}
 use Rattle.bh_spec.proofs.Marks.{bytes_of-append, content-append}
-use Rattle.bh_stream.specs.Outputs.{Output, written, shown_in}
+use Rattle.bh_stream.specs.Outputs.{written}
 use Rattle.bh_stream.specs.Logs.{Begins, IsLongest, HasBody, IsClose, GivesFront}
 use Rattle.bh_stream.specs.Decoding.{content_items, Rest, Moving, Coming, IsSilent, Passing, DecoderLaws}
 use Rattle.bh_stream.specs.Jobs.{Owing}
@@ -167,9 +167,8 @@ module _ {V : Type 0} {rest : Rest V} {room : V → ℕ} {moves : Moving V} {rea
 
   is_close_last : (slack : ℕ) (front : List Step) → LastPoint rest (Passing rest moves) true v owed slack (taken front) (given front) → IsClose (Coming rest v) Shown slack front
   is_close_last slack front p m n read wrote =
-      let mine = whole_text laws true v owed slack (taken front) (given front) p in
       let s = stood laws (read.spelled.0, read.text, read.spelled.1) p.moved in
-      let gives = shown.at_end (taken front) p.items p.state (pass_moved laws p.moved) p.omitted p.padding mine.text mine.spelled p.front p.due n (subst (λ (l : List ℕ). Shown l n) (sym p.gave) wrote) in
+      let gives = shown.at_end (taken front) p.items p.state (pass_moved laws p.moved) p.omitted p.padding p.whole p.front p.due n (subst (λ (l : List ℕ). Shown l n) (sym p.gave) wrote) in
       omega (arith, gives, read_content (taken front) (taken front) [] (sym (append-nil (taken front))) s m read, p.enough)
 
   pub close_at : (slack : ℕ) (front : List Step) → EachPoint rest (Passing rest moves) true v owed slack front → IsClose (Coming rest v) Shown slack front

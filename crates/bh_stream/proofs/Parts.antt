@@ -84,7 +84,7 @@ module _ {V R : Type 0} {rest : Rest V} {room : V → ℕ} {moves : Moving V} {r
 
       -- the items may come
       pub may_come : (q : List Item) × taking (items ++ q)
-      may_come = let more = took.alive in so.fits.so_far (take n left) items u took.moved more.0 (took_leads.residual.text ++ more.1) (took_leads.residual.back more.0 more.1 more.2)
+      may_come = so.fits.so_far (take n left) items u took.moved took.alive
 
       both_split : piece ≡ all_bytes ++ drop n left
       both_split = so.split ∙ ap (λ (l : List ℕ). so.front ++ l) (sym (take-append-drop n left)) ∙ sym (append_assoc so.front (take n left) (drop n left))

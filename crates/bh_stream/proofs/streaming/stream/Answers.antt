@@ -119,4 +119,4 @@ pub finish-requires-in-Ok-finish-clause-fits : goal.finish-requires-in-Ok-finish
 finish-requires-in-Ok-finish-clause-fits g c =
     let whole = c.in-Ok-finish.ensures.finished in
     let so = c.loop-count.invariant.so_far in
-    (whole.0, whole.1, so.fits.at_end [] [] c.loop-count.decoder (g.met.D.Decode.laws.stays c.loop-count.decoder so.is_ready) whole.0 whole.1 [] whole.2)
+    (whole.0, whole.1, so.fits.at_end [] [] c.loop-count.decoder (g.met.D.Decode.laws.stays c.loop-count.decoder so.is_ready) whole.0 whole.1 whole.2)
