@@ -1,8 +1,8 @@
 -- What is said of a format, from what the loop did.
-use Rattle.std.proofs.Common.{◌≡◌, ◌≤◌, ◌+◌, ◌⊎◌, ℕ, true, false, Bool, List, ◌++◌, take, Option, Some, sym, ◌∙◌, ap, subst, inl, inr}
+use Rattle.std.proofs.Common.{◌≡◌, ◌≤◌, ◌+◌, ◌⊎◌, ℕ, true, false, Bool, List, [], ◌∷◌, ◌++◌, take, Option, Some, sym, ◌∙◌, ap, subst, inl, inr}
 use Rattle.bh_spec.specs.Texts.{Text, bytes_of}
 use Rattle.bh_spec.specs.Pieces.{IsText, CanBecome, SomeOf}
-use Rattle.bh_spec.specs.Items.{Item}
+use Rattle.bh_spec.specs.Items.{Item, ending}
 use Rattle.bh_base.specs.Steps.{Step, taken, given, met}
 use Rattle.bh_spec.specs.declared.Omitted.{Omitted}
 use Rattle.bh_stream.specs.Outputs.{Output, written, shown_in}
@@ -11,7 +11,7 @@ use Rattle.bh_stream.specs.Decoding.{Rest, Moving, Coming, DecoderLaws}
 use Rattle.bh_stream.specs.Jobs.{Owing}
 use Rattle.bh_stream.specs.Points.{one_read}
 use Rattle.bh_stream.specs.Runs.{Streams}
-use Rattle.bh_stream.specs.Formats.{Knows, ShowsContent, GivesAlways}
+use Rattle.bh_stream.specs.Formats.{Knows, ShowsContent, ShowsSoFar, GivesAlways}
 use Rattle.bh_stream.specs.declared.streaming.End.{End}
 use Rattle.bh_stream.proofs.LogLaws.{gives_front, close_at, is_close}
 
@@ -79,12 +79,21 @@ module _ {M : Type 0} {spelled : M → Text → Type 0} {items_of : M → List I
     gives_always {writes = writes} h front back e = gives front (gives_front laws writes v owed (most + one_read) once front (h.points front back e))
 
     -- The content shown keeps up with the content taken.
+    pub keeps_so_far : (Shown : List ℕ → ℕ → Type 0) → ShowsSoFar rest moves v Shown owed → (h : Streams rest room moves refuses tells misses true most read write v owed s r t)
+        → KeepsUp (SomeOf spelled) Shown (most + one_read) most h.steps
+    keeps_so_far Shown shown h = keeps_same (SomeOf spelled) (Coming rest v) to from Shown (most + one_read) most h.steps (record {
+      always = λ front back e. close_at laws v owed Shown shown (most + one_read) front (h.points front back e);
+      at_reads = λ front back x r e. is_close laws v owed Shown shown most front (h.at_reads front back x r e);
+    })
+
     pub keeps_up : (Shown : List ℕ → ℕ → Type 0) → ShowsContent spelled items_of Shown owed → (h : Streams rest room moves refuses tells misses true most read write v owed s r t)
         → KeepsUp (SomeOf spelled) Shown (most + one_read) most h.steps
-    keeps_up Shown shown h = keeps_same (SomeOf spelled) (Coming rest v) to from Shown (most + one_read) most h.steps (record {
-      always = λ front back e. close_at laws v owed Shown outs (most + one_read) front (h.points front back e);
-      at_reads = λ front back x r e. is_close laws v owed Shown outs most front (h.at_reads front back x r e);
-    })
+    keeps_up Shown shown h = keeps_so_far Shown (record {
+      so_far = λ bytes i w moved q t k front due. let d = due q in outs (i ++ q) t k front d.rest d.split;
+      at_end = λ bytes i w moved omitted padding whole front due.
+          let residual = (laws.leads v w bytes i moved).residual in
+          outs (i ++ ending omitted padding ∷ []) (residual.text ++ []) (residual.back (ending omitted padding ∷ []) [] whole) front due.rest due.split;
+    }) h
       where
         outs : (q : List Item) (t : Text) → rest v q t → (front more : Output) → owed q ≡ front ++ more → (n : ℕ) → Shown (written front) n → shown_in front ≤ n
         outs q t h front more e =

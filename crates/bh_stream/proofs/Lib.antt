@@ -4,6 +4,7 @@ pub mod Logging
 pub mod ReadLaws
 pub mod Moving
 pub mod Passings
+pub mod Coming
 pub mod Parts
 pub mod Turns
 pub mod Closing

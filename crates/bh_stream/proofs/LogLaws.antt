@@ -7,10 +7,11 @@ use Rattle.bh_spec.specs.Texts.{Text, bytes_of, content_in}
 use Rattle.bh_spec.specs.Pieces.{CanBecome, IsText}
 use Rattle.bh_spec.specs.Items.{Item, ending}
 use Rattle.bh_spec.proofs.Marks.{bytes_of-append, content-append}
-use Rattle.bh_stream.specs.Outputs.{Output, written, shown_in}
+use Rattle.bh_stream.specs.Outputs.{written}
 use Rattle.bh_stream.specs.Logs.{Begins, IsLongest, HasBody, IsClose, GivesFront}
 use Rattle.bh_stream.specs.Decoding.{content_items, Rest, Moving, Coming, IsSilent, Passing, DecoderLaws}
 use Rattle.bh_stream.specs.Jobs.{Owing}
+use Rattle.bh_stream.specs.Formats.{ShowsSoFar}
 use Rattle.bh_stream.specs.Points.{Point, LastPoint, EachPoint}
 use Rattle.bh_stream.proofs.Outputs.{begins_written}
 use Rattle.bh_stream.proofs.Moving.{items-append, content-few, bytes-length, shorter, front_of_two}
@@ -129,7 +130,7 @@ module _ {V : Type 0} {rest : Rest V} {room : V → ℕ} {moves : Moving V} {rea
 
 module _ {V : Type 0} {rest : Rest V} {room : V → ℕ} {moves : Moving V} {ready : V → Type 0} (laws : DecoderLaws rest room moves ready) (v : V)
     (owed : Owing) (Shown : List ℕ → ℕ → Type 0)
-    (shown : (q : List Item) (t : Text) → rest v q t → (front more : Output) → owed q ≡ front ++ more → (n : ℕ) → Shown (written front) n → shown_in front ≤ n) where
+    (shown : ShowsSoFar rest moves v Shown owed) where
   -- the content up to such a state
   stood_content : {bytes : List ℕ} {items : List Item} (s : Stood rest v bytes items) → content_in s.residual.text ≡ content_items items
   stood_content {bytes} {items} s =
@@ -161,14 +162,13 @@ module _ {V : Type 0} {rest : Rest V} {room : V → ℕ} {moves : Moving V} {rea
   is_close slack front p m n read wrote =
       let s = stood laws (read.spelled.0, read.text, read.spelled.1) p.moved in
       let q = s.alive.0 in
-      let gives = shown (p.items ++ q) (s.residual.text ++ s.alive.1) (s.residual.back q s.alive.1 s.alive.2) p.front (p.due q).rest (p.due q).split n (subst (λ (l : List ℕ). Shown l n) (sym p.gave) wrote) in
+      let gives = shown.so_far p.done p.items p.state (pass_moved laws p.moved) q (s.residual.text ++ s.alive.1) (s.residual.back q s.alive.1 s.alive.2) p.front p.due n (subst (λ (l : List ℕ). Shown l n) (sym p.gave) wrote) in
       omega (arith, gives, read_content (taken front) p.done p.pending p.split s m read, p.enough)
 
   is_close_last : (slack : ℕ) (front : List Step) → LastPoint rest (Passing rest moves) true v owed slack (taken front) (given front) → IsClose (Coming rest v) Shown slack front
   is_close_last slack front p m n read wrote =
-      let mine = whole_text laws true v owed slack (taken front) (given front) p in
       let s = stood laws (read.spelled.0, read.text, read.spelled.1) p.moved in
-      let gives = shown (p.items ++ ending p.omitted p.padding ∷ []) mine.text mine.spelled p.front p.due.rest p.due.split n (subst (λ (l : List ℕ). Shown l n) (sym p.gave) wrote) in
+      let gives = shown.at_end (taken front) p.items p.state (pass_moved laws p.moved) p.omitted p.padding p.whole p.front p.due n (subst (λ (l : List ℕ). Shown l n) (sym p.gave) wrote) in
       omega (arith, gives, read_content (taken front) (taken front) [] (sym (append-nil (taken front))) s m read, p.enough)
 
   pub close_at : (slack : ℕ) (front : List Step) → EachPoint rest (Passing rest moves) true v owed slack front → IsClose (Coming rest v) Shown slack front

@@ -5,16 +5,16 @@ use Rattle.bh_base.specs.declared.failed.Failed.{Failed}
 use Rattle.bh_base.specs.Steps.{Step, Chain, none, given, IsQuiet, is_bad_write}
 use Rattle.bh_base.specs.StepLaws.{given-append, quiet_on, stops_on}
 use Rattle.bh_base.proofs.Chains.{joined}
-use Rattle.bh_spec.specs.Texts.{Text}
 use Rattle.bh_spec.specs.Items.{Item}
 use Rattle.bh_stream.specs.Outputs.{Output, written}
 use Rattle.bh_stream.specs.Logs.{Begins, AtEvery}
 use Rattle.bh_stream.specs.Decoding.{Rest, Moving, IsAlive, IsSilent, Leads, DecoderLaws, Took, Passing}
-use Rattle.bh_stream.specs.Jobs.{Owing, Sends}
+use Rattle.bh_stream.specs.Jobs.{Owing, Sends, Fits}
 use Rattle.bh_stream.specs.Points.{Point, Through}
 use Rattle.bh_stream.specs.Runs.{Feeds}
 use Rattle.bh_stream.specs.declared.feeding.Fed.TheVariants as fed
 use Rattle.bh_stream.proofs.Outputs.{written-append, shown-append, front_of, begins_more}
+use Rattle.bh_stream.proofs.Coming.{fits_on}
 use Rattle.bh_stream.proofs.Fronts.{at_none, at_more}
 use Rattle.bh_stream.proofs.Moving.{counted-append, counted-few}
 use Rattle.bh_stream.proofs.Passings.{pass_stays, pass_moved, pass_on, pass_need, pass_took, pass_few, silent_none}
@@ -31,7 +31,7 @@ pub record FedSo {V : Type 0} (rest : Rest V) (moves : Moving V) (ready : V → 
   pub points : AtEvery (λ xs. Point (Passing rest moves) writes v owed (length piece) piece (given xs)) steps
   pub through : Through (Passing rest moves) writes most v owed held front (given steps) w owes holds
   pub is_ready : ready w
-  pub fits : (q : List Item) (t : Text) → rest w q t → taking q
+  pub fits : Fits rest moves w taking
 
 module _ {V : Type 0} {rest : Rest V} {room : V → ℕ} {moves : Moving V} {ready : V → Type 0} (laws : DecoderLaws rest room moves ready) (writes : Bool) where
   -- the point before the first call
@@ -52,7 +52,7 @@ module _ {V : Type 0} {rest : Rest V} {room : V → ℕ} {moves : Moving V} {rea
 module _ {V R : Type 0} {rest : Rest V} {room : V → ℕ} {moves : Moving V} {ready : V → Type 0} (refuses : V → List ℕ → R → Type 0) (laws : DecoderLaws rest room moves ready)
     (writes : Bool) (most : ℕ) {S : Type 0} {step : S → Step → S → Type 0} where
   pub fed_start : (v : V) (owed : Owing) (held : ℕ) (piece : List ℕ) (s : S) → ready v → held ≤ most
-      → (taking : List Item → Type 0) → ((q : List Item) (t : Text) → rest v q t → taking q) → FedSo rest moves ready writes most step v owed held piece s piece v owed held taking s
+      → (taking : List Item → Type 0) → Fits rest moves v taking → FedSo rest moves ready writes most step v owed held piece s piece v owed held taking s
   fed_start v owed held piece s alive few taking fits = record {
     front = [];
     split = refl;
@@ -84,7 +84,7 @@ module _ {V R : Type 0} {rest : Rest V} {room : V → ℕ} {moves : Moving V} {r
 
       -- the items may come
       pub may_come : (q : List Item) × taking (items ++ q)
-      may_come = let more = took.alive in (more.0, so.fits (items ++ more.0) (took_leads.residual.text ++ more.1) (took_leads.residual.back more.0 more.1 more.2))
+      may_come = so.fits.so_far (take n left) items u took.moved took.alive
 
       both_split : piece ≡ all_bytes ++ drop n left
       both_split = so.split ∙ ap (λ (l : List ℕ). so.front ++ l) (sym (take-append-drop n left)) ∙ sym (append_assoc so.front (take n left) (drop n left))
@@ -141,7 +141,7 @@ module _ {V R : Type 0} {rest : Rest V} {room : V → ℕ} {moves : Moving V} {r
               few = whole.4;
             };
             is_ready = laws.is_ready w u (take n left) items so.is_ready took.moved;
-            fits = λ q r k. whole.5 q (so.fits (items ++ q) (took_leads.residual.text ++ r) (took_leads.residual.back q r k));
+            fits = fits_on laws w u (take n left) items took.moved taking taking' whole.5 so.fits;
           }
 
       pub fed_cut : (e : Failed) (owes' : Owing) (holds' : ℕ) (taking' : List Item → Type 0) (t' : S) → Sends step writes most owes owes' holds holds' taking taking' items t (Err e) t'
@@ -174,7 +174,7 @@ module _ {V R : Type 0} {rest : Rest V} {room : V → ℕ} {moves : Moving V} {r
           counts = so.through.counts;
           few = so.through.few;
         },
-        λ q r k. let leads = laws.leads w u left [] moved in so.fits q (leads.residual.text ++ r) (leads.residual.back q r k),
+        fits_on laws w u left [] moved taking taking (λ q k. k) so.fits,
       );
     }
 

@@ -1,12 +1,12 @@
 -- What a port tells of a call, by what the call did.
-use Rattle.std.proofs.Common.{◌≡◌, ◌≤◌, ◌<◌, ◌+◌, ◌⊎◌, ℕ, zero, suc, Bool, true, false, ◌||◌, List, [], ◌∷◌, ◌++◌, length, take, Option, Some, None, IfSome, refl, sym, ◌∙◌, ap, subst, append-nil, length-append, inl, inr, arith}
+use Rattle.std.proofs.Common.{◌≡◌, ◌<◌, ℕ, zero, suc, Bool, true, false, ◌||◌, List, [], ◌∷◌, ◌++◌, length, take, Option, Some, None, IfSome, refl, sym, ◌∙◌, ap, subst, append-nil, length-append, inl, arith}
 use Rattle.std.specs.List.{list_any}
-use Rattle.std.specs.Io.KnownBytes.{Consumes, Appends, IsAtEnd}
+use Rattle.std.specs.Io.KnownBytes.{Consumes, IsAtEnd}
 use Rattle.std.proofs.lemmas.List.{take_all}
 use Rattle.bh_spec.specs.Bounds.{IsWithin}
 use Rattle.bh_spec.specs.Texts.{Text}
-use Rattle.bh_spec.specs.Pieces.{IsText, CanBecome}
-use Rattle.bh_base.specs.Steps.{Step, Read, Write, BadRead, BadWrite, Rose, Counts, taken, given, met, meets_end, is_empty, Asks, IsQuiet, is_bad_read, is_bad_write, ReadFacts, WriteFacts, ReadLeaves, WriteLeaves, ChainFacts, Entry, Took, Gave, entries, Logs, Either, Meanings}
+use Rattle.bh_spec.specs.Pieces.{CanBecome}
+use Rattle.bh_base.specs.Steps.{Step, Read, Write, BadRead, BadWrite, Rose, Counts, taken, given, met, meets_end, is_empty, Asks, is_bad_read, is_bad_write, ReadFacts, WriteFacts, ReadLeaves, WriteLeaves, ChainFacts, Entry, Took, Gave, entries, Logs, Meanings}
 use Rattle.bh_base.specs.StepLaws.{quiet_is, read_stops, write_stops, stayed, rose}
 use Rattle.bh_base.proofs.Chains.{chain_facts}
 use Rattle.bh_stream.specs.Logs.{Begins, AtEvery, GivesFront, IsClose}

@@ -5,12 +5,11 @@ use Rattle.bh_base.specs.Steps.{Step, Read, BadRead, is_empty, meets_end, taken,
 use Rattle.bh_base.specs.StepLaws.{taken-append, given-append, reads-append, OnlyReads-append, Asks-append, EndsReading-append, ends_reading, quiet_on, stops_on, writes_take_nothing, writes_ask_nothing}
 use Rattle.bh_base.proofs.Chains.{one_step, joined, write_chain, writes_are_chain}
 use Rattle.bh_spec.specs.declared.Omitted.{Omitted}
-use Rattle.bh_spec.specs.Texts.{Text}
 use Rattle.bh_spec.specs.Items.{Item}
 use Rattle.bh_stream.specs.Outputs.{Output}
 use Rattle.bh_stream.specs.Logs.{AtEvery, BeforeReads}
 use Rattle.bh_stream.specs.Decoding.{Rest, Moving, Passing, DecoderLaws}
-use Rattle.bh_stream.specs.Jobs.{Owing}
+use Rattle.bh_stream.specs.Jobs.{Owing, Fits}
 use Rattle.bh_stream.specs.Points.{one_read, Point, EachPoint, ReadPoint, Through}
 use Rattle.bh_stream.specs.Runs.{Feeds, PieceEnds, Streams}
 use Rattle.bh_stream.specs.declared.feeding.Fed.{Fed}
@@ -35,7 +34,7 @@ pub record CallSo {V : Type 0} (rest : Rest V) (room : V → ℕ) (moves : Movin
   pub at_reads : BeforeReads (ReadPoint (Passing rest moves) writes v owed most) steps
   pub through : Through (Passing rest moves) writes most v owed 0 (taken steps) (given steps) w owes holds
   pub is_ready : ready w
-  pub fits : (q : List Item) (t : Text) → rest w q t → taking q
+  pub fits : Fits rest moves w taking
 
 busy : (size : ℕ) (bytes : List ℕ) → 0 < size → meets_end (Read size bytes) ≡ is_empty bytes
 busy zero bytes h = absurd (omega arith)
@@ -106,7 +105,7 @@ module _ {V : Type 0} {rest : Rest V} {room : V → ℕ} {moves : Moving V} {rea
 module _ {V A R : Type 0} {rest : Rest V} {room : V → ℕ} {moves : Moving V} {ready : V → Type 0} (refuses : V → List ℕ → R → Type 0) (tells : V → Omitted → ℕ → A → Type 0) (misses : V → R → Type 0)
     (laws : DecoderLaws rest room moves ready) (writes : Bool) (most : ℕ) {S : Type 0} {read write : S → Step → S → Type 0} {sent : S → Option (List ℕ)} {faults : S → ℕ}
     (write_law : (s t : S) (x : Step) → write s x t → WriteFacts sent faults s x t) where
-  pub call_start : (v : V) (owed : Owing) (held : ℕ) (s : S) → held ≡ 0 → ready v → (taking : List Item → Type 0) → ((q : List Item) (t : Text) → rest v q t → taking q)
+  pub call_start : (v : V) (owed : Owing) (held : ℕ) (s : S) → held ≡ 0 → ready v → (taking : List Item → Type 0) → Fits rest moves v taking
       → CallSo rest room moves ready writes most read write v owed s v owed held taking s
   call_start v owed held s none_held alive taking fits =
       let through : Through (Passing rest moves) writes most v owed 0 [] [] v owed held = record { items = []; moved = pass_stays laws v alive; text = []; gave = refl; due = λ q. refl; counts = omega (arith, none_held, counted-few writes []); few = omega (arith, none_held) } in

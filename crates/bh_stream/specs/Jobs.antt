@@ -1,11 +1,12 @@
 -- What a job does with the items of a message: it writes what is due for them. It keeps no history either.
-use Rattle.std.specs.Prelude.{◌≡◌, ◌≤◌, ◌+◌, ℕ, Bool, true, false, List, [], ◌++◌, OnOk, OnErr, Result}
+use Rattle.std.specs.Prelude.{◌≡◌, ◌≤◌, ◌+◌, ℕ, Bool, true, false, List, [], ◌∷◌, ◌++◌, OnOk, OnErr, Result}
+use Rattle.bh_spec.specs.declared.Omitted.{Omitted}
 use Rattle.bh_base.specs.declared.failed.Failed.{Failed}
 use Rattle.bh_base.specs.Steps.{Step, Chain, given, IsQuiet, StopsAt, is_bad_write}
-use Rattle.bh_spec.specs.Items.{Item}
+use Rattle.bh_spec.specs.Items.{Item, ending}
 use Rattle.bh_stream.specs.Outputs.{Output, written, shown_in}
 use Rattle.bh_stream.specs.Logs.{Begins}
-use Rattle.bh_stream.specs.Decoding.{content_items}
+use Rattle.bh_stream.specs.Decoding.{Rest, Moving, IsAlive, content_items}
 
 -- what is still to be written, by the items that are still to come
 abbrev pub Owing : Type 0
@@ -40,3 +41,10 @@ pub record SendsRest {S : Type 0} (step : S → Step → S
   pub alone : writes ≡ false → steps ≡ []
   pub whole : OnOk r (IsQuiet steps × (given steps ≡ written text))
   pub part : OnErr r (StopsAt is_bad_write steps × Begins (given steps) (written text))
+
+-- What a decoder hands out from v on may come to a job: the items of each move behind which something completes the message, whatever
+-- comes then; and with its ending those of a message that may end there.
+pub record Fits {V : Type 0} (rest : Rest V) (moves : Moving V) (v : V) (takes : List Item → Type 0) : Type 0 where
+  pub so_far : (bytes : List ℕ) (i : List Item) (w : V) → moves v bytes i w → IsAlive rest w → (more : List Item) × takes (i ++ more)
+  pub at_end : (bytes : List ℕ) (i : List Item) (w : V) → moves v bytes i w → (omitted : Omitted) (padding : ℕ)
+      → rest w (ending omitted padding ∷ []) [] → takes (i ++ ending omitted padding ∷ [])

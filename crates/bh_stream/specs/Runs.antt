@@ -1,13 +1,12 @@
 -- What one piece, and what a whole call, led to.
 use Rattle.std.specs.Prelude.{◌≡◌, ◌≤◌, ◌+◌, ◌⊎◌, ℕ, Bool, true, false, List, [], ◌∷◌, ◌++◌, length}
 use Rattle.bh_spec.specs.declared.Omitted.{Omitted}
-use Rattle.bh_spec.specs.Texts.{Text}
 use Rattle.bh_spec.specs.Items.{Item, ending}
 use Rattle.bh_base.specs.Steps.{Step, Chain, Either, taken, given, met, reads, Asks, EndsReading, OnlyReads, IsQuiet, StopsAt, is_bad_read, is_bad_write}
 use Rattle.bh_stream.specs.Outputs.{written}
 use Rattle.bh_stream.specs.Logs.{AtEvery, BeforeReads, ReadsTo}
 use Rattle.bh_stream.specs.Decoding.{Rest, Moving, Passing}
-use Rattle.bh_stream.specs.Jobs.{Owing}
+use Rattle.bh_stream.specs.Jobs.{Owing, Fits}
 use Rattle.bh_stream.specs.Points.{one_read, Point, EachPoint, ReadPoint, Through, IsStopped}
 use Rattle.bh_stream.specs.declared.feeding.Fed.{Fed}
 use Rattle.bh_stream.specs.declared.feeding.Fed.TheVariants as fed
@@ -19,7 +18,7 @@ abbrev pub PieceEnds : {V R : Type 0} → Rest V → Moving V → (V → List �
     → Owing → ℕ → (List Item → Type 0) → List Step → Type 0
 PieceEnds rest moves refuses writes most v owed held piece fed.All w owes holds taking steps =
     IsQuiet steps × Through (Passing rest moves) writes most v owed held piece (given steps) w owes holds
-    × ((q : List Item) (t : Text) → rest w q t → taking q)
+    × Fits rest moves w taking
 PieceEnds rest moves refuses writes most v owed held piece (fed.Refused r) w owes holds taking steps = IsQuiet steps
     × IsStopped moves refuses v piece r
 PieceEnds rest moves refuses writes most v owed held piece fed.WriteFault w owes holds taking steps = StopsAt is_bad_write steps

@@ -1,7 +1,6 @@
 //! One piece.
-ghost use Rattle.std.specs.Prelude.{◌≡◌, ◌≤◌, List, length};
-ghost use Rattle.bh_spec.specs.Texts.{Text};
-ghost use Rattle.bh_spec.specs.Items.{Item};
+ghost use Rattle.std.specs.Prelude.{◌≡◌, ◌≤◌, length};
+ghost use Rattle.bh_stream.specs.Jobs.{Fits};
 ghost use Rattle.bh_stream.specs.Runs.{Feeds};
 
 use crate::{Decode, Job, Pushed};
@@ -27,7 +26,7 @@ pub fn feed<S: Sink, D: Decode, J: Job<S, D>>(
     requires size { length piece.now ≤ 8192 }
     requires few { J.held job.old ≤ J.most }
     requires ready { D.ready decoder.old }
-    requires fits { (q : List Item) (t : Text) → D.rest decoder.old q t → J.takes job.old q }
+    requires fits { Fits D.rest D.moves decoder.old (J.takes job.old) }
     ensures feeds { Feeds D.rest D.moves D.refuses J.writes J.most S.write_step decoder.old (J.owed job.old) (J.held job.old) piece.now
         sink.old result decoder.new (J.owed job.new) (J.held job.new) (J.takes job.new) sink.new }
     ensures limits { D.limits decoder.new ≡ D.limits decoder.old }

@@ -1,7 +1,6 @@
 //! The loop.
-ghost use Rattle.std.specs.Prelude.{◌≡◌, ◌≤◌, ◌<◌, List, length};
-ghost use Rattle.bh_spec.specs.Texts.{Text};
-ghost use Rattle.bh_spec.specs.Items.{Item};
+ghost use Rattle.std.specs.Prelude.{◌≡◌, ◌≤◌, ◌<◌, length};
+ghost use Rattle.bh_stream.specs.Jobs.{Fits};
 ghost use Rattle.bh_stream.specs.Runs.{Streams};
 
 use crate::feeding::{Fed, feed};
@@ -30,7 +29,7 @@ pub fn stream<P: Port, D: Decode, J: Job<P, D>>(
     requires size { (0 < length buffer.old) × (length buffer.old ≤ 8192) }
     requires held { J.held job.old ≡ 0 }
     requires ready { D.ready decoder.old }
-    requires fits { (q : List Item) (t : Text) → D.rest decoder.old q t → J.takes job.old q }
+    requires fits { Fits D.rest D.moves decoder.old (J.takes job.old) }
     ensures streams { Streams D.rest D.room D.moves D.refuses D.tells D.misses J.writes J.most P.read_step P.write_step
         decoder.old (J.owed job.old) port.old result port.new }
     ensures buffer { length buffer.new ≡ length buffer.old }

@@ -52,35 +52,12 @@ use Rattle.h1_judge.specs.Courses.{cleaned_items, Course, start_course, behind, 
 use Rattle.h1_judge.specs.Views.{JudgedView, Moved, rest, IsAtStart, IsJudged, AreContent, IsRefused, RefusesHere, Tells, IsEndJudged, misses}
 use Rattle.h1_judge.specs.JudgedLaws.{cleaned-append, behind-append, free-append, judged_laws}
 use Rattle.h1_text.specs.Owed.{at_start, owed}
-use Rattle.h1_text.proofs.Owes.{owes_the_text, is_the_text}
-use Rattle.bh_translate.specs.Into.{sent_text, TheTextIsSent, IsTranslated, IsRefusedBinary, IsFormless, IntoEnds}
+use Rattle.h1_text.proofs.Comings.{one_ending}
+use Rattle.h1_text.proofs.Owes.{owes_the_text}
+use Rattle.bh_translate.specs.Into.{IsTranslated, IsRefusedBinary, IsFormless, IntoEnds}
 use Rattle.bh_translate.proofs.Left.{some_left}
 use Rattle.bh_translate.proofs.Starting.{items_cleaned, leaves_clean}
 use Rattle.bh_translate.proofs.Joining.{cases_in, items_free, IsThing, item_with, end_with, end_nothing}
-
--- an ending alone is the cleaned one
-one_ending : (named : List (List ℕ)) (q : List Item) (o : Omitted) (z : ℕ) → cleaned_items named q ≡ ending o z ∷ [] → q ≡ ending o z ∷ []
-one_ending named [] o z e = absurd cc
-one_ending named ((interim_response status fields) ∷ q) o z e = absurd cc
-one_ending named ((head of fields) ∷ q) o z e = absurd cc
-one_ending named ((content_byte x) ∷ q) o z e = absurd cc
-one_ending named ((trailer_section fields) ∷ q) o z e = absurd cc
-one_ending named ((ending p y) ∷ []) o z e = e
-one_ending named ((ending p y) ∷ (x ∷ q)) o z e = let tail : cleaned_items named (x ∷ q) ≡ [] = cc in absurd cc
-
--- the text of a message that has one
-pub the_text_is_sent : TheTextIsSent
-the_text_is_sent to_head m e = is_the_text to_head (clean_message m) none
-  where
-    no_bytes : (l : List ℕ) → length l ≡ 0 → l ≡ []
-    no_bytes [] h = refl
-    no_bytes (x ∷ l) h = absurd (omega (arith, h))
-
-    none : framing_written to_head (clean_message m) ≡ Empty → (clean_message m).content ≡ []
-    none f =
-        let free = free_back (of_head m.start m.fields) (of_body (framing_written to_head (clean_message m)) m.content (clean_trailers (hops m.fields) m.trailers)) (none_free (cases_of to_head m) e) in
-        let body = subst (λ (g : Framing1). AreFreeCases (of_body g m.content (clean_trailers (hops m.fields) m.trailers))) f free in
-        no_bytes m.content (eqb-true (length m.content) 0 (not-false (nat_eq (length m.content) 0) body.0))
 
 -- ---- one state and the bytes that led to it
 
@@ -332,8 +309,7 @@ module _ (L : Bounds) (limits : AreLimits L) (to_head : Bool) (v : JudgedView) (
           summary_is = told.3 ∙ ap (λ (n : Message). summary n h.omitted h.padding (length (taken steps))) same.0;
           gave = h.gave ∙ ap (λ (q : List Item). written (owed to_head at_start q)) (items_there h found.0 found.1)
               ∙ owes_the_text to_head (clean_message found.0) h.omitted h.padding
-              (leaves_clean found.0 h.omitted (spelled_leaves L found.0 h.omitted h.padding found.2.0.message.1.text found.2.0.message.1.spelled))
-              ∙ the_text_is_sent to_head found.0 (free_where_formed L to_head (taken steps) found.0 h.omitted h.padding found.2);
+              (leaves_clean found.0 h.omitted (spelled_leaves L found.0 h.omitted h.padding found.2.0.message.1.text found.2.0.message.1.spelled));
         },
       )
     where

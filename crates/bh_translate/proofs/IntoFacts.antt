@@ -26,7 +26,8 @@ use Rattle.h1_judge.specs.JudgedLaws.{judged_laws}
 use Rattle.h1_text.specs.Owed.{at_start, owed}
 use Rattle.h1_text.specs.Writers as writing
 use Rattle.h1_text.specs.Writers.{Writing, owes}
-use Rattle.bh_translate.specs.Into.{sent_text, IsFormless, IntoEnds, IsRightInto, into_end_of, IntoFacts, IntoSo, into_end}
+use Rattle.h1_spec.specs.Http1Text.{http1}
+use Rattle.bh_translate.specs.Into.{IsFormless, IntoEnds, IsRightInto, into_end_of, IntoFacts, IntoSo, into_end}
 use Rattle.bh_translate.specs.declared.into.IntoEnd.{IntoEnd}
 use Rattle.bh_translate.specs.declared.into.IntoEnd.TheVariants as ends
 use Rattle.bh_translate.proofs.Starting.{knows_clean}
@@ -89,17 +90,17 @@ module _ (L : Bounds) (limits : AreLimits L) (to_head : Bool) (v : JudgedView) (
       → IntoFacts L to_head read write (record { left = left; sent = sent; read_faults = read_faults; write_faults = write_faults }) log s r t
   into_facts s t r h =
       let knows = knows_clean L limits to_head v start in
-      let call = port_call (IntoEnds L to_head) knows.limit_is h (gives_messages L (sent_text to_head) h.steps (gives_always knows judged_laws h))
+      let call = port_call (IntoEnds L to_head) knows.limit_is h (gives_messages L (http1 to_head) h.steps (gives_always knows judged_laws h))
       (ended_in L limits to_head v start r h.steps h.outcome) in
       record {
         call = record { steps = h.steps; call = call };
-        told = tells_of (IsTextOf L) (sent_text to_head) L.input (IsRightInto L to_head) (stops L to_head) (right L to_head) (done L to_head) read_law ended_law write_law read_leaves write_leaves s t r h.steps call;
-        complete = completes_as (IsTextOf L) (sent_text to_head) L.input (IsRightInto L to_head) (stops L to_head) (right L to_head) (done L to_head) read_law ended_law write_law read_leaves write_leaves
+        told = tells_of (IsTextOf L) (http1 to_head) L.input (IsRightInto L to_head) (stops L to_head) (right L to_head) (done L to_head) read_law ended_law write_law read_leaves write_leaves s t r h.steps call;
+        complete = completes_as (IsTextOf L) (http1 to_head) L.input (IsRightInto L to_head) (stops L to_head) (right L to_head) (done L to_head) read_law ended_law write_law read_leaves write_leaves
             s t r h.steps call (IsIntoAnswer L to_head) into_end_of (one L to_head r);
         logged = logged_as _ h.steps (log s) (log t)
-            (facts (IsTextOf L) (sent_text to_head) L.input (IsRightInto L to_head) (stops L to_head) (right L to_head) (done L to_head) read_law ended_law write_law read_leaves write_leaves s t r h.steps call).logs
-            (at_entries (GivesFront (IsTextOf L) (sent_text to_head) L.input) front_alike h.steps call.asks call.gives);
-        counts = counted_as (IsTextOf L) (sent_text to_head) L.input (IsRightInto L to_head) (stops L to_head) (right L to_head) (done L to_head) read_law ended_law write_law read_leaves write_leaves s t r h.steps call;
+            (facts (IsTextOf L) (http1 to_head) L.input (IsRightInto L to_head) (stops L to_head) (right L to_head) (done L to_head) read_law ended_law write_law read_leaves write_leaves s t r h.steps call).logs
+            (at_entries (GivesFront (IsTextOf L) (http1 to_head) L.input) front_alike h.steps call.asks call.gives);
+        counts = counted_as (IsTextOf L) (http1 to_head) L.input (IsRightInto L to_head) (stops L to_head) (right L to_head) (done L to_head) read_law ended_law write_law read_leaves write_leaves s t r h.steps call;
       }
 
   -- the writer at the start owes the text

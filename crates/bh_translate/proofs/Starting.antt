@@ -15,14 +15,14 @@ use Rattle.bh_stream.specs.Formats.{Knows}
 use Rattle.bh_stream.specs.Messages.{Spelled, IsSpelled, KnowsMessages}
 use Rattle.bh_reading.specs.Readings as binary
 use Rattle.bh_reading.proofs.AtStart.{knows_at_start, from_start}
+use Rattle.h1_spec.specs.Http1Text.{text_of, http1}
 use Rattle.h1_spec.specs.Cleaning.{hops, clean, clean_trailers, clean_interim, clean_message, says_host}
 use Rattle.h1_spec.proofs.Members.{spelled_leaves}
 use Rattle.h1_spec.specs.Laws.{LeavesOut}
 use Rattle.h1_judge.specs.Courses.{named_behind, cleaned_items, Course}
 use Rattle.h1_judge.specs.Views.{JudgedView, rest, room, IsAtStart}
-use Rattle.h1_text.specs.Owed.{at_start, owed, text_sent}
+use Rattle.h1_text.specs.Owed.{at_start, owed}
 use Rattle.h1_text.proofs.Owes.{owes_the_text}
-use Rattle.bh_translate.specs.Into.{sent_text}
 
 -- ---- the items of the cleaned message
 
@@ -67,11 +67,11 @@ module _ (L : Bounds) (limits : AreLimits L) (to_head : Bool) (v : JudgedView) (
   raw : (q : List Item) (t : Text) → binary.rest v.reading q t → (m : Message) × (o : Omitted) × (z : ℕ) × (q ≡ items m o z) × Spells L m o z t
   raw q t h = from_start L limits v.reading start.reading q t h
 
-  binary_knows : KnowsMessages L (text_sent to_head) binary.rest binary.room v.reading (owed to_head at_start)
-  binary_knows = knows_at_start L limits v.reading start.reading (text_sent to_head) (owed to_head at_start)
+  binary_knows : KnowsMessages L (text_of to_head) binary.rest binary.room v.reading (owed to_head at_start)
+  binary_knows = knows_at_start L limits v.reading start.reading (text_of to_head) (owed to_head at_start)
       (λ m o z t h. owes_the_text to_head m o z (spelled_leaves L m o z t h))
 
-  pub knows_clean : Knows (IsSpelled L) clean_of (λ s. sent_text to_head s.message) L.input rest room v (owed to_head at_start)
+  pub knows_clean : Knows (IsSpelled L) clean_of (λ s. http1 to_head s.message) L.input rest room v (owed to_head at_start)
   knows_clean = record {
     reads = λ s t h. (
       items s.message s.omitted s.padding,

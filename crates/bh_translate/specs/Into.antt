@@ -1,5 +1,5 @@
 -- How a translation to HTTP/1.1 ended, by the calls of its port.
-use Rattle.std.specs.Prelude.{◌≡◌, ◌⊎◌, ℕ, Bool, true, List, ◌++◌, length, Option, None}
+use Rattle.std.specs.Prelude.{◌≡◌, ◌⊎◌, ℕ, Bool, true, List, ◌++◌, length, Option}
 use Rattle.bh_spec.specs.declared.NoForm.{NoForm}
 use Rattle.bh_spec.specs.declared.Omitted.{Omitted}
 use Rattle.bh_spec.specs.declared.Refusal.{Refusal}
@@ -15,23 +15,13 @@ use Rattle.bh_stream.specs.Telling.{TellsOf, CompletesAs, CountsAs, AtEveryEntry
 use Rattle.bh_stream.specs.Calls.{PortCall}
 use Rattle.bh_stream.specs.declared.streaming.End.{End}
 use Rattle.bh_stream.specs.declared.streaming.End.TheVariants as end
-use Rattle.h1_spec.specs.Cleaning.{clean_message}
-use Rattle.h1_spec.specs.Http1Text.{no_form, http1}
+use Rattle.h1_spec.specs.Http1Text.{http1}
 use Rattle.h1_spec.specs.Judging.{IsJudgedAt}
 use Rattle.h1_spec.specs.Translation.{IntoAnswer, formed, dead, formless, IsIntoAnswer}
-use Rattle.h1_text.specs.Owed.{text_sent}
 use Rattle.h1_judge.specs.declared.judged.IntoWhy.{IntoWhy}
 use Rattle.h1_judge.specs.declared.judged.IntoWhy.TheVariants.{Binary, Form}
 use Rattle.bh_translate.specs.declared.into.IntoEnd.{IntoEnd}
 use Rattle.bh_translate.specs.declared.into.IntoEnd.TheVariants as ends
-
--- What is written of a message: its text; and where its head says that there is no body, its content behind that. No message with an
--- HTTP/1.1 form has such content.
-abbrev pub sent_text : Bool → Message → List ℕ
-sent_text to_head m = text_sent to_head (clean_message m)
-
-abbrev pub TheTextIsSent : Type 0
-TheTextIsSent = (to_head : Bool) (m : Message) → no_form to_head m ≡ None → sent_text to_head m ≡ http1 to_head m
 
 -- The bytes taken are a message that has a text, this is its summary, and its text was given.
 pub record IsTranslated (L : Bounds) (to_head : Bool) (s : Summary) (steps : List Step) : Type 0 where
@@ -68,12 +58,12 @@ IntoEnds L to_head (end.Refused (Form form)) steps = IsQuiet steps × IsFormless
 IntoEnds L to_head end.ReadFault steps = StopsAt is_bad_read steps
 IntoEnds L to_head end.WriteFault steps = StopsAt is_bad_write steps
 
--- A call that translates a message: at every point of its calls what was given begins what is written of every message that continues
--- what was taken.
+-- A call that translates a message: at every point of its calls what was given begins the text of every message that continues what was
+-- taken, also of one without a form.
 pub record IntoCall (L : Bounds) (to_head : Bool) {S : Type 0} (read write : S → Step → S → Type 0) (s : S) (r : End Summary IntoWhy)
     (t : S) : Type 0 where
   pub steps : List Step
-  pub call : PortCall L.input (GivesFronts L (sent_text to_head)) (IntoEnds L to_head) read write steps s r t
+  pub call : PortCall L.input (GivesFronts L (http1 to_head)) (IntoEnds L to_head) read write steps s r t
 
 -- The end that is right for an input, and what was sent with it.
 abbrev pub IsRightInto : Bounds → Bool → End Summary IntoWhy → List ℕ → List ℕ → Type 0
@@ -90,18 +80,18 @@ into_end_of (formed m omitted padding) bytes = end.Done (summary m omitted paddi
 into_end_of (dead r) bytes = end.Refused (Binary r)
 into_end_of (formless form) bytes = end.Refused (Form form)
 
--- What a port that tells what is left tells of a call: the end is right for its input, and what was sent begins what is written of the
--- message that the input is.
+-- What a port that tells what is left tells of a call: the end is right for its input, and what was sent begins the text of the message
+-- that the input is.
 abbrev pub IntoTold : Bounds → Bool → {S : Type 0} → Meanings S → S → End Summary IntoWhy → S → Type 0
-IntoTold L to_head port s r t = TellsOf (IsTextOf L) (sent_text to_head) L.input (IsRightInto L to_head) port s r t
+IntoTold L to_head port s r t = TellsOf (IsTextOf L) (http1 to_head) L.input (IsRightInto L to_head) port s r t
 
 -- Whatever the answer for the input is, the call ended with it where no fault was counted.
 abbrev pub IntoCompletes : Bounds → Bool → {S : Type 0} → Meanings S → S → End Summary IntoWhy → S → Type 0
 IntoCompletes L to_head port s r t = CompletesAs (IsIntoAnswer L to_head) into_end_of port s r t
 
--- At every point of the log what was given begins what is written of every message that continues what was taken.
+-- At every point of the log what was given begins the text of every message that continues what was taken.
 abbrev pub IntoLog : Bounds → Bool → List Entry → Type 0
-IntoLog L to_head log = AtEveryEntry (GivesFront (IsTextOf L) (sent_text to_head) L.input) log
+IntoLog L to_head log = AtEveryEntry (GivesFront (IsTextOf L) (http1 to_head) L.input) log
 
 -- all that is said of a call over a port
 pub record IntoFacts (L : Bounds) (to_head : Bool) {S : Type 0} (read write : S → Step → S → Type 0) (port : Meanings S)

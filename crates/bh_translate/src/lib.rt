@@ -2,9 +2,7 @@
 #![tactic(auto)]
 
 mod into;
-mod laws;
 #[cfg(test)]
 mod tests;
 
 pub use into::{IntoEnd, to_http1};
-pub use laws::the_text_is_sent;

@@ -7,6 +7,8 @@ use Rattle.bh_spec.specs.Canonical.{cut}
 use Rattle.bh_base.specs.declared.failed.Failed.{Failed}
 use Rattle.bh_base.specs.Steps.{Step, WroteAll}
 use Rattle.bh_base.specs.Batches.{Writes}
+use Rattle.h1_spec.specs.declared.Framing1.{Framing1}
+use Rattle.h1_spec.specs.declared.Framing1.TheVariants.{Chunked}
 use Rattle.h1_spec.specs.Grammar.{crlf}
 use Rattle.h1_spec.specs.Http1Text.{chunk_text, hex_within, field_lines}
 use Rattle.h1_spec.specs.Written.{last_text, section_text, coding_line}
@@ -14,7 +16,7 @@ use Rattle.bh_stream.specs.Outputs.{Output, written, shown_in, plain}
 use Rattle.bh_stream.specs.Jobs.{SendsRest}
 use Rattle.bh_stream.proofs.Outputs.{written_plain}
 use Rattle.h1_text.specs.Gathering.{GatheredView, with_bytes, Gathers}
-use Rattle.h1_text.specs.Owed.{chunk_out, body_out, final_out, has_body, head_end}
+use Rattle.h1_text.specs.Owed.{chunk_out, body_out, final_out, framing_left, head_end}
 use Rattle.h1_text.specs.Ends.{piece_out, end_out}
 use Rattle.h1_text.specs.Holding.{Keeps}
 use Rattle.h1_text.specs.Writers.{framed, IsFramed, IsStage, room_of}
@@ -77,7 +79,7 @@ head_room chunked before now got room w =
     end_fits true room h = h
     end_fits false room h = omega (arith, h)
 
-has_some : (trailers : List Field) → 0 < length trailers → has_body [] trailers ≡ true
+has_some : (trailers : List Field) → 0 < length trailers → framing_left [] trailers ≡ Chunked
 has_some [] some = absurd (omega arith)
 has_some (line ∷ trailers) some = refl
 
@@ -150,30 +152,35 @@ module _ {S : Type 0} {step : S → Step → S → Type 0} where
       end_fits false room h = omega (arith, h)
 
   pub bare_sent : {s t : S} (front : List ℕ) (trailers : List Field) (r : Result (Unit {0}) Failed) → trailers ≡ [] → SendsRest step true (plain (front ++ head_end false)) s r t
-      → SendsRest step true (final_out (has_body [] trailers) front [] trailers) s r t
+      → SendsRest step true (final_out (framing_left [] trailers) front [] trailers) s r t
   bare_sent front trailers r e h =
-      goes_as (plain (front ++ head_end false)) (final_out (has_body [] trailers) front [] trailers) r
-      (sym (append-nil (plain (front ++ head_end false))) ∙ ap (λ (ts : List Field). final_out (has_body [] ts) front [] ts) (sym e)) h
+      goes_as (plain (front ++ head_end false)) (final_out (framing_left [] trailers) front [] trailers) r
+      (ap (λ (ts : List Field). final_out (framing_left [] ts) front [] ts) (sym e)) h
 
   pub held_sent : {s t u : S} (front : List ℕ) (trailers : List Field) (first r : Result (Unit {0}) Failed) {a : Unit {0}} → 0 < length trailers → first ≡ Ok a
-      → SendsRest step true (plain (front ++ head_end true)) s first t → Writes step t (last_text trailers) r u → SendsRest step true (final_out (has_body [] trailers) front [] trailers) s r u
+      → SendsRest step true (plain (front ++ head_end true)) s first t → Writes step t (last_text trailers) r u → SendsRest step true (final_out (framing_left [] trailers) front [] trailers) s r u
   held_sent {s = s} {t = t} front trailers first r some ok h w =
       let head = plain (front ++ head_end true) in
-      goes_as (head ++ body_out true [] trailers) (final_out (has_body [] trailers) front [] trailers) r (ap (λ (c : Bool). final_out c front [] trailers) (sym (has_some trailers some)))
+      goes_as (head ++ body_out true [] trailers) (final_out (framing_left [] trailers) front [] trailers) r (ap (λ (f : Framing1). final_out f front [] trailers) (sym (has_some trailers some)))
       (goes_on head (body_out true [] trailers) r (subst (λ (x : Result (Unit {0}) Failed). SendsRest step true head s x t) ok h) (of_writer (body_out true [] trailers) r (last_bytes trailers) w))
 
   pub held_failed : {s t : S} (front : List ℕ) (trailers : List Field) (first r : Result (Unit {0}) Failed) {f : Failed} → 0 < length trailers → first ≡ Err f → IsErr r
-      → SendsRest step true (plain (front ++ head_end true)) s first t → SendsRest step true (final_out (has_body [] trailers) front [] trailers) s r t
+      → SendsRest step true (plain (front ++ head_end true)) s first t → SendsRest step true (final_out (framing_left [] trailers) front [] trailers) s r t
   held_failed front trailers first r some e bad h =
       let head = plain (front ++ head_end true) in
-      goes_as (head ++ body_out true [] trailers) (final_out (has_body [] trailers) front [] trailers) r (ap (λ (c : Bool). final_out c front [] trailers) (sym (has_some trailers some)))
+      goes_as (head ++ body_out true [] trailers) (final_out (framing_left [] trailers) front [] trailers) r (ap (λ (f : Framing1). final_out f front [] trailers) (sym (has_some trailers some)))
       (goes_off head (body_out true [] trailers) first r e bad h)
 
   -- ---- the end of any message
 
   pub end_held : {s t : S} (front kept : List ℕ) (trailers : List Field) (stage : Stage) (r : Result (Unit {0}) Failed) → stage ≡ stages.Held
-      → SendsRest step true (final_out (has_body [] trailers) front [] trailers) s r t → SendsRest step true (end_out stage front kept trailers) s r t
-  end_held front kept trailers stage r e h = goes_as (final_out (has_body [] trailers) front [] trailers) (end_out stage front kept trailers) r (ap (λ (st : Stage). end_out st front kept trailers) (sym e)) h
+      → SendsRest step true (final_out (framing_left [] trailers) front [] trailers) s r t → SendsRest step true (end_out stage front kept trailers) s r t
+  end_held front kept trailers stage r e h = goes_as (final_out (framing_left [] trailers) front [] trailers) (end_out stage front kept trailers) r (ap (λ (st : Stage). end_out st front kept trailers) (sym e)) h
+
+  pub end_bodyless : {s t : S} (front kept : List ℕ) (trailers : List Field) (stage : Stage) (piece : List ℕ) (r : Result (Unit {0}) Failed) → stage ≡ stages.Bodyless → piece ≡ front
+      → WroteAll step s piece r t → SendsRest step true (end_out stage front kept trailers) s r t
+  end_bodyless front kept trailers stage piece r e is w =
+      goes_as (plain front) (end_out stage front kept trailers) r (ap (λ (st : Stage). end_out st front kept trailers) (sym e)) (of_piece (plain front) r (written_plain front ∙ sym is) w)
 
   pub end_body : {s t : S} (front kept : List ℕ) (trailers : List Field) (stage : Stage) (chunked such : Bool) (r : Result (Unit {0}) Failed) → stage ≡ stages.Body chunked → chunked ≡ such
       → SendsRest step true (body_out such kept trailers) s r t → SendsRest step true (end_out stage front kept trailers) s r t

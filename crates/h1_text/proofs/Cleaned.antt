@@ -13,8 +13,8 @@ use Rattle.h1_spec.specs.Heads.{IsHeadField}
 use Rattle.h1_spec.specs.Http1Text.{has_bad_value}
 use Rattle.h1_spec.specs.Written.{IsWritable}
 use Rattle.h1_judge.specs.Views.{JudgedView, IsInterim, IsHead, IsTrailers}
-use Rattle.h1_text.specs.Owed.{Duty, at_start, head_held, in_body, all_done}
-use Rattle.h1_text.specs.Writers.{Writing, HasRoom, BodyComes, EndComes, MessageComes, comes_to, takes, IsBehindHead, head_of, JobSends}
+use Rattle.h1_text.specs.Owed.{Duty, at_start, head_held, head_waits, in_body, all_done}
+use Rattle.h1_text.specs.Writers.{Writing, HasRoom, comes_to, takes, MayHaveBody, IsBehindHead, head_of, JobSends}
 use Rattle.h1_text.proofs.Free.{interim_writable, response_free, request_free, trailers_free}
 
 -- ---- where the writer stands
@@ -22,35 +22,40 @@ use Rattle.h1_text.proofs.Free.{interim_writable, response_free, request_free, t
 head_start : (duty : Duty) (v : Writing) (of : Head) (fields : List Field) (q : List Item) → comes_to duty v (head of fields ∷ q) → duty ≡ at_start
 head_start at_start v of fields q h = refl
 head_start (head_held front) v of fields q h = absurd h
+head_start (head_waits whole) v of fields q h = absurd h
 head_start (in_body chunked kept) v of fields q h = absurd h
 head_start all_done v of fields q h = let e = h.2 in absurd (cc)
 
 head_has_room : (duty : Duty) (v : Writing) (of : Head) (fields : List Field) (q : List Item) → comes_to duty v (head of fields ∷ q) → HasRoom v of fields
 head_has_room at_start v of fields q h = h.0
 head_has_room (head_held front) v of fields q h = absurd h
+head_has_room (head_waits whole) v of fields q h = absurd h
 head_has_room (in_body chunked kept) v of fields q h = absurd h
 head_has_room all_done v of fields q h = let e = h.2 in absurd (cc)
 
 interim_start : (duty : Duty) (v : Writing) (status : ℕ) (fields : List Field) (q : List Item) → comes_to duty v (interim_response status fields ∷ q) → duty ≡ at_start
 interim_start at_start v status fields q h = refl
 interim_start (head_held front) v status fields q h = absurd h
+interim_start (head_waits whole) v status fields q h = absurd h
 interim_start (in_body chunked kept) v status fields q h = absurd h
 interim_start all_done v status fields q h = let e = h.2 in absurd (cc)
 
 trailers_behind_head : (duty : Duty) (v : Writing) (fields : List Field) (q : List Item) → comes_to duty v (trailer_section fields ∷ q) → IsBehindHead duty
 trailers_behind_head at_start v fields q h = absurd h
 trailers_behind_head (head_held front) v fields q h = tt
+trailers_behind_head (head_waits whole) v fields q h = tt
 trailers_behind_head (in_body chunked kept) v fields q h = tt
 trailers_behind_head all_done v fields q h = let e = h.2 in absurd (cc)
 
-content_behind_head : (duty : Duty) (v : Writing) (bytes : List ℕ) (q : List Item) → 0 < length bytes → comes_to duty v (map content_byte bytes ++ q) → IsBehindHead duty
+content_behind_head : (duty : Duty) (v : Writing) (bytes : List ℕ) (q : List Item) → 0 < length bytes → comes_to duty v (map content_byte bytes ++ q) → MayHaveBody duty
 content_behind_head duty v [] q some h = absurd (omega arith)
 content_behind_head at_start v (x ∷ bytes) q some h = absurd h
 content_behind_head (head_held front) v (x ∷ bytes) q some h = tt
+content_behind_head (head_waits whole) v (x ∷ bytes) q some h = let e = h.0 in absurd (cc)
 content_behind_head (in_body chunked kept) v (x ∷ bytes) q some h = tt
 content_behind_head all_done v (x ∷ bytes) q some h = let e = h.2 in absurd (cc)
 
-pub content_place : (v : Writing) (bytes : List ℕ) → 0 < length bytes → ((q : List Item) × takes v (map content_byte bytes ++ q)) → IsBehindHead v.duty
+pub content_place : (v : Writing) (bytes : List ℕ) → 0 < length bytes → ((q : List Item) × takes v (map content_byte bytes ++ q)) → MayHaveBody v.duty
 content_place v bytes some h = content_behind_head v.duty v bytes h.0 some h.1
 
 -- ---- what the decoder shows
@@ -112,11 +117,13 @@ request_shown d v h c lines e l =
     )
 
 pub response_shown : (d : JudgedView) (v : Writing) (h : HeadShown d v) (status : ℕ) (lines : List Field) → Some status ≡ status_shown d.reading.held.head → lines ≡ d.cleaned
-    → IsWritable (head_of (response [] status) lines)
+    → IsWritable (head_of (response [] status) lines) × HasRoom v (of_response status) lines
 response_shown d v h status lines e l =
     let is = response_is d h.0 h.1 h.2 status e in
-    let i : IsHead d (of_response status) h.1 = subst (λ (of : Head). IsHead d of h.1) is h.2 in
-    subst (λ (ls : List Field). IsWritable (head_of (response [] status) ls)) (sym (l ∙ i.section.cleaned)) (response_free status h.1 i.section.fitting.0.0 i.section.fitting.0.1 i.section.fitting.1 i.free)
+    let i : IsHead d (of_response status) h.1 = subst (λ (of : Head). IsHead d of h.1) is h.2 in (
+      subst (λ (ls : List Field). IsWritable (head_of (response [] status) ls)) (sym (l ∙ i.section.cleaned)) (response_free status h.1 i.section.fitting.0.0 i.section.fitting.0.1 i.section.fitting.1 i.free),
+      subst (λ (ls : List Field). HasRoom v (of_response status) ls) (sym l) (subst (λ (of : Head). HasRoom v of d.cleaned) is (head_has_room v.duty v h.0 d.cleaned h.3.0 h.3.1)),
+    )
 
 module _ {S : Type 0} {step : S → Step → S → Type 0} {s t : S} where
   -- the job did it for the item that is shown

@@ -9,8 +9,8 @@ use Rattle.bh_base.specs.declared.failed.Failed.{Failed}
 use Rattle.bh_base.specs.Steps.{Step}
 use Rattle.bh_base.specs.Batches.{Writes}
 use Rattle.h1_spec.specs.Grammar.{crlf}
-use Rattle.h1_spec.specs.Framing.{lengths}
-use Rattle.h1_spec.specs.Http1Text.{field_lines, interim_text, status_text, framing_by}
+use Rattle.h1_spec.specs.Framing.{lengths, is_bodyless}
+use Rattle.h1_spec.specs.Http1Text.{field_lines, interim_text, status_text, framing_by, has_no_body}
 use Rattle.h1_spec.specs.Written.{text_of_head, response_written, coding_line}
 use Rattle.h1_spec.specs.Http1.{start_of}
 use Rattle.bh_stream.specs.Outputs.{Output, written, shown_in, plain}
@@ -22,13 +22,13 @@ use Rattle.bh_stream.proofs.Outputs.{written_plain, shown-append, shown_plain}
 use Rattle.bh_stream.specs.Tails.{content_of, trailers_of}
 use Rattle.bh_stream.proofs.Tails.{content_behind, trailers_behind}
 use Rattle.h1_text.specs.Gathering.{GatheredView}
-use Rattle.h1_text.specs.Owed.{body_out, is_chunked, is_none, is_open, has_body, says_chunks, head_front, head_end, final_out, Duty, at_start, head_held, in_body, all_done, owed, held}
+use Rattle.h1_text.specs.Owed.{body_out, is_chunked, is_none, is_open, framing_left, says_chunks, head_front, head_end, final_out, Duty, at_start, head_held, head_waits, in_body, all_done, owed, held}
 use Rattle.h1_text.specs.Ends.{end_out}
 use Rattle.h1_text.specs.Holding.{Keeps}
-use Rattle.h1_text.specs.Writers.{Writing, before_all, BodyComes, EndComes, takes, IsBehindHead, JobSends, duty_of, writing_of, IsStage}
+use Rattle.h1_text.specs.Writers.{Writing, before_all, BodyComes, takes, MayHaveBody, IsBehindHead, JobSends, duty_of, IsStage}
 use Rattle.h1_text.specs.declared.stage.Stage.{Stage}
 use Rattle.h1_text.specs.declared.stage.Stage.TheVariants as stages
-use Rattle.h1_text.proofs.Owing.{body_shows, head_due, open_due, held_due, trailers_due, held_trailers_due}
+use Rattle.h1_text.proofs.Owing.{body_shows, head_due, bodyless_due, open_due, held_due, trailers_due, held_trailers_due}
 use Rattle.h1_text.proofs.Owes.{split_head}
 use Rattle.h1_text.proofs.Sending.{none_goes, of_writer, goes_as, goes_on, goes_off}
 
@@ -43,32 +43,35 @@ at_is : (v : Writing) (duty : Duty) → v.duty ≡ duty → at v duty ≡ v
 at_is v duty e = λ i. record { to_head = v.to_head; duty = (sym e) i; target_room = v.target_room; head_room = v.head_room }
 
 -- content and more come behind content
-body_behind : (bytes : List ℕ) (q : List Item) → BodyComes (map content_byte bytes ++ q) → BodyComes q
+body_behind : (bytes : List ℕ) (q : List Item) → BodyComes false (map content_byte bytes ++ q) → BodyComes false q
 body_behind [] q h = h
-body_behind (x ∷ bytes) q h = body_behind bytes q h
+body_behind (x ∷ bytes) q h = body_behind bytes q h.1
 
 -- before the head nothing is held
 pub none_kept : (stage : Stage) (front : GatheredView) (kept : List ℕ) → duty_of stage front.bytes kept ≡ at_start → IsStage stage front kept → kept ≡ []
 none_kept stages.Start front kept e is = is
 none_kept stages.Held front kept e is = is.0
+none_kept stages.Bodyless front kept e is = absurd (cc)
 none_kept (stages.Body chunked) front kept e is = absurd (cc)
 none_kept stages.Ended front kept e is = absurd (cc)
 
-response_bytes : (status : ℕ) (fields : List Field) (chunked : Bool) → text_of_head (response_written status fields chunked) ≡ head_front (response [] status) fields ++ head_end chunked
+pub response_bytes : (status : ℕ) (fields : List Field) (chunked : Bool) → text_of_head (response_written status fields chunked) ≡ head_front (response [] status) fields ++ head_end chunked
 response_bytes status fields chunked = split_head (status_text status) fields (coding_line chunked)
 
 counted : (values : List (List ℕ)) → is_none values ≡ false → false ≡ is_chunked (framing_by values false)
 counted [] h = absurd (cc)
 counted (value ∷ more) h = refl
 
-final_shows : (chunked : Bool) (front content : List ℕ) (trailers : List Field) → shown_in (final_out chunked front content trailers) ≡ length content
-final_shows chunked front content trailers =
-    omega (arith, shown-append (plain (front ++ head_end chunked)) (body_out chunked content trailers), shown_plain (front ++ head_end chunked), body_shows chunked content trailers)
+-- a head that is held shows no content
+held_shows : (front : List ℕ) (trailers : List Field) → shown_in (final_out (framing_left [] trailers) front [] trailers) ≡ 0
+held_shows front [] = shown_plain (front ++ head_end false)
+held_shows front (line ∷ more) = omega (arith, shown-append (plain (front ++ head_end true)) (body_out true [] (line ∷ more)), shown_plain (front ++ head_end true), body_shows true [] (line ∷ more))
 
--- a stage behind the head that isn't in the body is that of a head that is held
-pub is_held : (stage : Stage) (front kept : List ℕ) → ((chunked : Bool) → stage ≡ stages.Body chunked → ⊥) → IsBehindHead (duty_of stage front kept) → stage ≡ stages.Held
+-- a stage at which content may come that isn't in the body is that of a head that is held
+pub is_held : (stage : Stage) (front kept : List ℕ) → ((chunked : Bool) → stage ≡ stages.Body chunked → ⊥) → MayHaveBody (duty_of stage front kept) → stage ≡ stages.Held
 is_held stages.Start front kept other h = absurd h
 is_held stages.Held front kept other h = refl
+is_held stages.Bodyless front kept other h = absurd h
 is_held (stages.Body chunked) front kept other h = absurd (other chunked refl)
 is_held stages.Ended front kept other h = absurd h
 
@@ -121,10 +124,11 @@ module _ {S : Type 0} {step : S → Step → S → Type 0} where
       (λ q k. k))
 
   -- a head that doesn't leave open which body there is
-  head_goes : (v w : Writing) (of : Head) (fields : List Field) (chunked : Bool) (kept : List ℕ) {s t : S} (r : Result (Unit {0}) Failed) → v.duty ≡ at_start → is_open of fields ≡ false
+  head_goes : (v w : Writing) (of : Head) (fields : List Field) (chunked : Bool) (kept : List ℕ) {s t : S} (r : Result (Unit {0}) Failed) → v.duty ≡ at_start
+      → has_no_body v.to_head (start_of of) ≡ false → is_open of fields ≡ false
       → chunked ≡ says_chunks v.to_head of fields → kept ≡ [] → w.to_head ≡ v.to_head → w.duty ≡ in_body chunked kept
       → SendsRest step true (plain (head_front (start_of of) fields ++ head_end chunked)) s r t → JobSends step v w (head of fields ∷ []) s r t
-  head_goes v w of fields chunked kept {s = s} {t = t} r e shut says none same stands h =
+  head_goes v w of fields chunked kept {s = s} {t = t} r e some shut says none same stands h =
       let front = head_front (start_of of) fields in
       let said = says_chunks v.to_head of fields in
       let u : Writing = record { to_head = v.to_head; duty = in_body said []; target_room = w.target_room; head_room = w.head_room } in
@@ -134,14 +138,14 @@ module _ {S : Type 0} {step : S → Step → S → Type 0} where
       (from v u at_start (head of fields ∷ []) r e
       (goes (at v at_start) u (head of fields ∷ []) (plain (front ++ head_end said)) r
       (goes_as (plain (front ++ head_end chunked)) (plain (front ++ head_end said)) r (ap (λ (b : Bool). plain (front ++ head_end b)) says) h)
-      (λ q. head_due v.to_head of fields q shut) (omega (arith, shown_plain (front ++ head_end said))) (omega arith) (λ q k. k.1)))
+      (λ q. head_due v.to_head of fields q some shut) (omega (arith, shown_plain (front ++ head_end said))) (omega arith) (λ q k. subst (λ (b : Bool). BodyComes b q) some k.1)))
 
   pub response_sent : (v w : Writing) (status : ℕ) (fields : List Field) (chunked : Bool) (kept : List ℕ) {s t : S} (r : Result (Unit {0}) Failed) → v.duty ≡ at_start
-      → chunked ≡ says_chunks v.to_head (of_response status) fields → kept ≡ [] → w.to_head ≡ v.to_head → w.duty ≡ in_body chunked kept
+      → is_bodyless v.to_head status ≡ false → chunked ≡ says_chunks v.to_head (of_response status) fields → kept ≡ [] → w.to_head ≡ v.to_head → w.duty ≡ in_body chunked kept
       → Writes step s (text_of_head (response_written status fields chunked)) r t → JobSends step v w (head (of_response status) fields ∷ []) s r t
-  response_sent v w status fields chunked kept r e says none same stands sent =
+  response_sent v w status fields chunked kept r e some says none same stands sent =
       let text = head_front (response [] status) fields ++ head_end chunked in
-      head_goes v w (of_response status) fields chunked kept r e refl says none same stands (of_writer (plain text) r (written_plain text ∙ sym (response_bytes status fields chunked)) sent)
+      head_goes v w (of_response status) fields chunked kept r e some refl says none same stands (of_writer (plain text) r (written_plain text ∙ sym (response_bytes status fields chunked)) sent)
 
   pub request_sent : (v w : Writing) (c : Control) (fields : List Field) (kept : List ℕ) {s t : S} (r : Result (Unit {0}) Failed) → v.duty ≡ at_start → true ≡ not (is_none (lengths fields))
       → kept ≡ [] → w.to_head ≡ v.to_head → w.duty ≡ in_body false kept
@@ -149,7 +153,7 @@ module _ {S : Type 0} {step : S → Step → S → Type 0} where
   request_sent v w c fields kept r e some none same stands sent =
       let text = head_front (request c) fields ++ head_end false in
       let shut : is_none (lengths fields) ≡ false = not-true (is_none (lengths fields)) (sym some) in
-      head_goes v w (of_request c) fields false kept r e shut (counted (lengths fields) shut) none same stands (of_writer (plain text) r (written_plain text) sent)
+      head_goes v w (of_request c) fields false kept r e refl shut (counted (lengths fields) shut) none same stands (of_writer (plain text) r (written_plain text) sent)
 
   pub request_held : (v w : Writing) (c : Control) (fields : List Field) (front : List ℕ) {s : S} → v.duty ≡ at_start → false ≡ not (is_none (lengths fields))
       → front ≡ head_front (request c) fields → w.to_head ≡ v.to_head → w.duty ≡ head_held front → JobSends step v w (head (of_request c) fields ∷ []) s (Ok tt) s
@@ -161,6 +165,18 @@ module _ {S : Type 0} {step : S → Step → S → Type 0} where
       subst (λ (x : Writing). JobSends step v x (head (of_request c) fields ∷ []) s (Ok tt) s) there
       (from v u at_start (head (of_request c) fields ∷ []) (Ok tt) e
       (goes (at v at_start) u (head (of_request c) fields ∷ []) [] (Ok tt) none_goes (λ q. open_due v.to_head (of_request c) fields q (not-false (is_none (lengths fields)) (sym none))) (omega arith) (omega arith) (λ q k. k.1)))
+
+  pub response_held : (v w : Writing) (status : ℕ) (fields : List Field) (whole : List ℕ) {s : S} → v.duty ≡ at_start → is_bodyless v.to_head status ≡ true
+      → whole ≡ head_front (response [] status) fields ++ head_end false → w.to_head ≡ v.to_head → w.duty ≡ head_waits whole → JobSends step v w (head (of_response status) fields ∷ []) s (Ok tt) s
+  response_held v w status fields whole {s = s} e none is same stands =
+      let text = head_front (response [] status) fields ++ head_end false in
+      let u : Writing = record { to_head = v.to_head; duty = head_waits text; target_room = w.target_room; head_room = w.head_room } in
+      let duty : head_waits text ≡ w.duty = ap head_waits (sym is) ∙ sym stands in
+      let there : u ≡ w = λ i. record { to_head = (sym same) i; duty = duty i; target_room = w.target_room; head_room = w.head_room } in
+      subst (λ (x : Writing). JobSends step v x (head (of_response status) fields ∷ []) s (Ok tt) s) there
+      (from v u at_start (head (of_response status) fields ∷ []) (Ok tt) e
+      (goes (at v at_start) u (head (of_response status) fields ∷ []) [] (Ok tt) none_goes (λ q. bodyless_due v.to_head status fields q none) (omega arith) (omega arith)
+      (λ q k. subst (λ (b : Bool). BodyComes b q) none k.1)))
 
   -- ---- content
 
@@ -233,8 +249,13 @@ module _ {S : Type 0} {step : S → Step → S → Type 0} where
       by_stage stages.Held e behind h =
           onto
           (from v done (head_held front.bytes) (trailer_section trailers ∷ []) r e
-          (goes (at v (head_held front.bytes)) done (trailer_section trailers ∷ []) (final_out (has_body [] trailers) front.bytes [] trailers) r h
-          (λ q. held_trailers_due v.to_head front.bytes trailers q) (omega (arith, final_shows (has_body [] trailers) front.bytes [] trailers)) (omega arith) (λ q k. k)))
+          (goes (at v (head_held front.bytes)) done (trailer_section trailers ∷ []) (final_out (framing_left [] trailers) front.bytes [] trailers) r h
+          (λ q. held_trailers_due v.to_head front.bytes trailers q) (omega (arith, held_shows front.bytes trailers)) (omega arith) (λ q k. k)))
+      by_stage stages.Bodyless e behind h =
+          onto
+          (from v done (head_waits front.bytes) (trailer_section trailers ∷ []) r e
+          (goes (at v (head_waits front.bytes)) done (trailer_section trailers ∷ []) (plain front.bytes) r h
+          (λ q. sym (append-nil (plain front.bytes))) (omega (arith, shown_plain front.bytes)) (omega arith) (λ q k. k)))
       by_stage (stages.Body chunked) e behind h =
           onto
           (from v done (in_body chunked kept) (trailer_section trailers ∷ []) r e
@@ -251,5 +272,6 @@ module _ {S : Type 0} {step : S → Step → S → Type 0} where
       by_stage : (stage : Stage) → end_out stage front.bytes kept [] ≡ owed v.to_head (duty_of stage front.bytes kept) (ending omitted padding ∷ [])
       by_stage stages.Start = refl
       by_stage stages.Held = refl
+      by_stage stages.Bodyless = refl
       by_stage (stages.Body chunked) = ap (λ (l : List ℕ). body_out chunked l []) (sym (append-nil kept))
       by_stage stages.Ended = refl

@@ -1,5 +1,5 @@
 -- What is owed for the items of a message is its text.
-use Rattle.std.proofs.Common.{◌≡◌, Bool, cond, ℕ, List, [], ◌∷◌, ◌++◌, map, flat_map, refl, sym, ap, ap₂, ◌∙◌, append_assoc, append-nil}
+use Rattle.std.proofs.Common.{◌≡◌, Bool, false, cond, ℕ, List, [], ◌∷◌, ◌++◌, map, flat_map, refl, sym, ap, ap₂, ◌∙◌, append_assoc, append-nil}
 use Rattle.std.proofs.lemmas.Grind.{flat_map-append}
 use Rattle.bh_spec.specs.declared.Omitted.{Omitted}
 use Rattle.bh_spec.specs.declared.Omitted.TheVariants.{Nothing, Trailers, Both}
@@ -9,7 +9,7 @@ use Rattle.bh_spec.specs.Items.{Item, interim_response, head, ending, Head, of_r
 use Rattle.h1_spec.specs.declared.Framing1.{Framing1}
 use Rattle.h1_spec.specs.declared.Framing1.TheVariants.{Empty, Counted, Chunked, ToEnd}
 use Rattle.h1_spec.specs.Grammar.{crlf}
-use Rattle.h1_spec.specs.Http1Text.{field_line, field_lines, interim_text, start_line, said_host, head_text, chunk_text, framing_written, coding_lines, interims_text, body_text}
+use Rattle.h1_spec.specs.Http1Text.{field_line, field_lines, interim_text, start_line, said_host, head_text, chunk_text, framing_written, coding_lines, body_text, text_of}
 use Rattle.h1_spec.specs.Written.{last_text, coding_line}
 use Rattle.h1_spec.specs.Laws.{LeavesOut}
 use Rattle.h1_spec.specs.Http1.{start_of}
@@ -17,8 +17,8 @@ use Rattle.bh_stream.specs.Outputs.{written, plain}
 use Rattle.bh_stream.proofs.Outputs.{written-append, written_plain}
 use Rattle.bh_stream.specs.Tails.{trailers_of}
 use Rattle.bh_stream.proofs.Tails.{content_behind, trailers_behind, no_content}
-use Rattle.h1_text.specs.Owed.{body_out, is_chunked, head_front, head_end, final_out, message_of, at_start, owed, body_sent, text_sent}
-use Rattle.h1_text.specs.Laws.{OwesTheText, IsTheText}
+use Rattle.h1_text.specs.Owed.{body_out, is_chunked, head_front, head_end, final_out, message_of, at_start, owed}
+use Rattle.h1_text.specs.Laws.{OwesTheText}
 use Rattle.h1_text.proofs.Owing.{body_bytes}
 
 -- ---- the head
@@ -51,21 +51,22 @@ head_is f m =
 abbrev made : Start → List Field → List ℕ → List Field → Message
 made start fields content trailers = record { start = start; fields = fields; content = content; trailers = trailers }
 
-body_is : (f : Framing1) (start : Start) (fields : List Field) (content : List ℕ) (trailers : List Field)
-    → cond (is_chunked f) (flat_map chunk_text (cut 8192 content) ++ last_text trailers) content ≡ body_sent f (made start fields content trailers)
-body_is Empty start fields content trailers = refl
-body_is (Counted n) start fields content trailers = refl
-body_is Chunked start fields content trailers = refl
-body_is ToEnd start fields content trailers = refl
-
-final_is : (f : Framing1) (start : Start) (fields : List Field) (content : List ℕ) (trailers : List Field)
-    → written (final_out (is_chunked f) (head_front start fields) content trailers) ≡ head_text f (made start fields content trailers) ++ body_sent f (made start fields content trailers)
-final_is f start fields content trailers =
+-- a head and a body behind it
+bodied_is : (f : Framing1) (start : Start) (fields : List Field) (content : List ℕ) (trailers : List Field)
+    → written (plain (head_front start fields ++ head_end (is_chunked f)) ++ body_out (is_chunked f) content trailers)
+    ≡ head_text f (made start fields content trailers) ++ cond (is_chunked f) (flat_map chunk_text (cut 8192 content) ++ last_text trailers) content
+bodied_is f start fields content trailers =
     let front : List ℕ = head_front start fields ++ head_end (is_chunked f) in
     written-append (plain front) (body_out (is_chunked f) content trailers)
-    ∙ ap₂ (λ (a b : List ℕ). a ++ b)
-    (written_plain front ∙ sym (head_is f (made start fields content trailers)))
-    (body_bytes (is_chunked f) content trailers ∙ body_is f start fields content trailers)
+    ∙ ap₂ (λ (a b : List ℕ). a ++ b) (written_plain front ∙ sym (head_is f (made start fields content trailers))) (body_bytes (is_chunked f) content trailers)
+
+final_is : (f : Framing1) (start : Start) (fields : List Field) (content : List ℕ) (trailers : List Field)
+    → written (final_out f (head_front start fields) content trailers) ≡ head_text f (made start fields content trailers) ++ body_text f (made start fields content trailers)
+final_is Empty start fields content trailers =
+    written_plain (head_front start fields ++ head_end false) ∙ sym (head_is Empty (made start fields content trailers)) ∙ sym (append-nil (head_text Empty (made start fields content trailers)))
+final_is (Counted n) start fields content trailers = bodied_is (Counted n) start fields content trailers
+final_is Chunked start fields content trailers = bodied_is Chunked start fields content trailers
+final_is ToEnd start fields content trailers = bodied_is ToEnd start fields content trailers
 
 -- ---- the items
 
@@ -84,21 +85,21 @@ tail_made of m omitted padding h =
     (trailers_behind m.content end ∙ end_trailers m omitted padding h)
 
 head_owed : (to_head : Bool) (of : Head) (m : Message) (omitted : Omitted) (padding : ℕ) → LeavesOut m omitted
-    → written (owed to_head at_start (head of m.fields ∷ tail_items m.content m.trailers omitted padding)) ≡ text_sent to_head (made (start_of of) m.fields m.content m.trailers)
+    → written (owed to_head at_start (head of m.fields ∷ tail_items m.content m.trailers omitted padding)) ≡ text_of to_head (made (start_of of) m.fields m.content m.trailers)
 head_owed to_head of m omitted padding h =
     let n = made (start_of of) m.fields m.content m.trailers in
-    ap (λ (k : Message). written (final_out (is_chunked (framing_written to_head k)) (head_front k.start k.fields) k.content k.trailers)) (tail_made of m omitted padding h)
+    ap (λ (k : Message). written (final_out (framing_written to_head k) (head_front k.start k.fields) k.content k.trailers)) (tail_made of m omitted padding h)
     ∙ final_is (framing_written to_head n) (start_of of) m.fields m.content m.trailers ∙ no_interims of n
   where
-    no_interims : (of : Head) (n : Message) → head_text (framing_written to_head (made (start_of of) m.fields m.content m.trailers)) (made (start_of of) m.fields m.content m.trailers) ++ body_sent (framing_written to_head (made (start_of of) m.fields m.content m.trailers)) (made (start_of of) m.fields m.content m.trailers)
-        ≡ text_sent to_head (made (start_of of) m.fields m.content m.trailers)
+    no_interims : (of : Head) (n : Message) → head_text (framing_written to_head (made (start_of of) m.fields m.content m.trailers)) (made (start_of of) m.fields m.content m.trailers) ++ body_text (framing_written to_head (made (start_of of) m.fields m.content m.trailers)) (made (start_of of) m.fields m.content m.trailers)
+        ≡ text_of to_head (made (start_of of) m.fields m.content m.trailers)
     no_interims (of_request control) n = refl
     no_interims (of_response status) n = refl
 
 -- the head and the body don't say which interim responses came before
 any_interims : (f : Framing1) (interims : List Interim) (status : ℕ) (fields : List Field) (content : List ℕ) (trailers : List Field)
-    → head_text f (made (response [] status) fields content trailers) ++ body_sent f (made (response [] status) fields content trailers)
-    ≡ head_text f (made (response interims status) fields content trailers) ++ body_sent f (made (response interims status) fields content trailers)
+    → head_text f (made (response [] status) fields content trailers) ++ body_text f (made (response [] status) fields content trailers)
+    ≡ head_text f (made (response interims status) fields content trailers) ++ body_text f (made (response interims status) fields content trailers)
 any_interims Empty interims status fields content trailers = refl
 any_interims (Counted n) interims status fields content trailers = refl
 any_interims Chunked interims status fields content trailers = refl
@@ -114,7 +115,7 @@ interims_owed to_head (i ∷ interims) q =
     ∙ sym (append_assoc (interim_text i) (flat_map interim_text interims) (written (owed to_head at_start q)))
 
 by_start : (to_head : Bool) (start : Start) (m : Message) (omitted : Omitted) (padding : ℕ) → LeavesOut m omitted
-    → written (owed to_head at_start (start_items start m.fields ++ tail_items m.content m.trailers omitted padding)) ≡ text_sent to_head (made start m.fields m.content m.trailers)
+    → written (owed to_head at_start (start_items start m.fields ++ tail_items m.content m.trailers omitted padding)) ≡ text_of to_head (made start m.fields m.content m.trailers)
 by_start to_head (request control) m omitted padding h = head_owed to_head (of_request control) m omitted padding h
 by_start to_head (response interims status) m omitted padding h =
     let tail : List Item = tail_items m.content m.trailers omitted padding in
@@ -127,12 +128,3 @@ by_start to_head (response interims status) m omitted padding h =
 
 pub owes_the_text : OwesTheText
 owes_the_text to_head m omitted padding h = by_start to_head m.start m omitted padding h
-
-pub is_the_text : IsTheText
-is_the_text to_head m h = by_framing (framing_written to_head m) h
-  where
-    by_framing : (f : Framing1) → (f ≡ Empty → m.content ≡ []) → interims_text m.start ++ (head_text f m ++ body_sent f m) ≡ interims_text m.start ++ (head_text f m ++ body_text f m)
-    by_framing Empty e = ap (λ (l : List ℕ). interims_text m.start ++ (head_text Empty m ++ l)) (e refl)
-    by_framing (Counted n) e = refl
-    by_framing Chunked e = refl
-    by_framing ToEnd e = refl

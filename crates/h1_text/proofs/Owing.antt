@@ -4,15 +4,15 @@ use Rattle.std.specs.List.{concat}
 use Rattle.std.proofs.lemmas.List.{length-drop, map-append, take_all, drop_all}
 use Rattle.std.proofs.lemmas.Bool.{ne_eqb, and_left}
 use Rattle.std.proofs.Math.Seq.{take-append_seam, drop-append_seam}
-use Rattle.bh_spec.specs.Messages.{Field, request}
+use Rattle.bh_spec.specs.Messages.{Field, request, response}
 use Rattle.bh_spec.specs.Canonical.{cut, cut_within}
 use Rattle.bh_spec.specs.Items.{Item, head, content_byte, trailer_section, Head, of_request, of_response}
 use Rattle.bh_spec.proofs.Written.{cut_whole}
 use Rattle.h1_spec.specs.declared.Framing1.{Framing1}
 use Rattle.h1_spec.specs.Grammar.{crlf}
-use Rattle.h1_spec.specs.Framing.{lengths}
-use Rattle.h1_spec.specs.Moments.{announced}
-use Rattle.h1_spec.specs.Http1Text.{hex_within, chunk_text, framing_written, framing_by, is_bare}
+use Rattle.h1_spec.specs.declared.Framing1.TheVariants.{Empty}
+use Rattle.h1_spec.specs.Framing.{lengths, is_bodyless}
+use Rattle.h1_spec.specs.Http1Text.{hex_within, chunk_text, has_no_body, framing_by, is_bare}
 use Rattle.h1_spec.specs.Written.{last_text}
 use Rattle.h1_spec.specs.Http1.{start_of}
 use Rattle.bh_stream.specs.Outputs.{Output, written, shown_in, plain, shown}
@@ -20,7 +20,7 @@ use Rattle.bh_stream.proofs.Outputs.{written-append, shown-append, written_plain
 use Rattle.bh_stream.specs.Tails.{content_of, trailers_of}
 use Rattle.bh_stream.proofs.Tails.{content_behind, trailers_behind}
 use Rattle.h1_text.specs.Ends.{piece_out}
-use Rattle.h1_text.specs.Owed.{chunk_out, body_out, is_chunked, head_front, head_end, final_out, is_none, is_open, says_chunks, has_body, message_of, head_held, in_body, at_start, owed}
+use Rattle.h1_text.specs.Owed.{chunk_out, body_out, is_chunked, head_front, head_end, final_out, is_none, is_open, says_chunks, framing_left, message_of, head_held, head_waits, in_body, at_start, owed}
 
 -- ---- cutting
 
@@ -153,42 +153,57 @@ trailers_due to_head chunked kept fields q = ap (λ (l : List ℕ). body_out chu
 -- ---- the head
 
 -- with a length it is counted, and without one it is chunked
-by_length : (values : List (List ℕ)) → is_chunked (framing_by values false) ≡ is_none values
+pub by_length : (values : List (List ℕ)) → is_chunked (framing_by values false) ≡ is_none values
 by_length [] = refl
 by_length (value ∷ more) = refl
+
+-- a body goes out behind its head
+abbrev behind_head : Framing1 → List ℕ → List ℕ → List Field → Output
+behind_head f front content trailers = plain (front ++ head_end (is_chunked f)) ++ body_out (is_chunked f) content trailers
+
+bodied : (values : List (List ℕ)) (front content : List ℕ) (trailers : List Field) → final_out (framing_by values false) front content trailers ≡ behind_head (framing_by values false) front content trailers
+bodied [] front content trailers = refl
+bodied (value ∷ more) front content trailers = refl
 
 said : (values : List (List ℕ)) (bare : Bool) → is_none values ≡ false → framing_by values bare ≡ framing_by values false
 said [] bare h = absurd (cc)
 said (value ∷ more) bare h = refl
 
--- the framing is the one that the head announces, where the head doesn't leave it open
-announced_is : (to_head : Bool) (of : Head) (fields : List Field) (q : List Item) → is_open of fields ≡ false
-    → framing_written to_head (message_of of fields q) ≡ announced to_head (start_of of) fields
-announced_is to_head (of_response status) fields q h = refl
-announced_is to_head (of_request control) fields q h = said (lengths fields) (is_bare (message_of (of_request control) fields q) (request control)) h
-
-pub head_due : (to_head : Bool) (of : Head) (fields : List Field) (q : List Item) → is_open of fields ≡ false
+-- where the head says that there is a body, and which
+pub head_due : (to_head : Bool) (of : Head) (fields : List Field) (q : List Item) → has_no_body to_head (start_of of) ≡ false → is_open of fields ≡ false
     → owed to_head at_start (head of fields ∷ q)
     ≡ plain (head_front (start_of of) fields ++ head_end (says_chunks to_head of fields)) ++ owed to_head (in_body (says_chunks to_head of fields) []) q
-head_due to_head of fields q h =
-    ap (λ (f : Framing1). final_out (is_chunked f) (head_front (start_of of) fields) (content_of q) (trailers_of q)) (announced_is to_head of fields q h)
+head_due to_head (of_response status) fields q some shut =
+    let front = head_front (response [] status) fields in
+    let body = framing_by (lengths fields) false in
+    ap (λ (none : Bool). final_out (cond none Empty body) front (content_of q) (trailers_of q)) some ∙ bodied (lengths fields) front (content_of q) (trailers_of q)
+    ∙ ap (λ (none : Bool). behind_head (cond none Empty body) front (content_of q) (trailers_of q)) (sym some)
+head_due to_head (of_request control) fields q some shut =
+    let front = head_front (request control) fields in
+    ap (λ (f : Framing1). final_out f front (content_of q) (trailers_of q)) (said (lengths fields) (is_bare (message_of (of_request control) fields q) (request control)) shut)
+    ∙ bodied (lengths fields) front (content_of q) (trailers_of q)
 
-bare_is : (content : List ℕ) (trailers : List Field) → not (nat_eq (length content) 0 && nat_eq (length trailers) 0) ≡ has_body content trailers
+-- where there is none the head is all
+pub bodyless_due : (to_head : Bool) (status : ℕ) (fields : List Field) (q : List Item) → is_bodyless to_head status ≡ true
+    → owed to_head at_start (head (of_response status) fields ∷ q) ≡ owed to_head (head_waits (head_front (response [] status) fields ++ head_end false)) q
+bodyless_due to_head status fields q none =
+    ap (λ (b : Bool). final_out (cond b Empty (framing_by (lengths fields) false)) (head_front (response [] status) fields) (content_of q) (trailers_of q)) none
+
+bare_is : (content : List ℕ) (trailers : List Field) → framing_by [] (nat_eq (length content) 0 && nat_eq (length trailers) 0) ≡ framing_left content trailers
 bare_is [] [] = refl
-bare_is [] (line ∷ more) = ap not (ne_eqb (suc (length more)) 0 (λ e. omega (arith, e)))
-bare_is (byte ∷ more) trailers = ap not (and_left (nat_eq (suc (length more)) 0) (nat_eq (length trailers) 0) (ne_eqb (suc (length more)) 0 (λ e. omega (arith, e))))
+bare_is [] (line ∷ more) = ap (framing_by []) (ne_eqb (suc (length more)) 0 (λ e. omega (arith, e)))
+bare_is (byte ∷ more) trailers = ap (framing_by []) (and_left (nat_eq (suc (length more)) 0) (nat_eq (length trailers) 0) (ne_eqb (suc (length more)) 0 (λ e. omega (arith, e))))
 
-open_by : (values : List (List ℕ)) (bare : Bool) → is_none values ≡ true → is_chunked (framing_by values bare) ≡ not bare
-open_by [] true h = refl
-open_by [] false h = refl
+open_by : (values : List (List ℕ)) (bare : Bool) → is_none values ≡ true → framing_by values bare ≡ framing_by [] bare
+open_by [] bare h = refl
 open_by (value ∷ more) bare h = absurd (cc)
 
--- where it does, it is held
+-- where it leaves that open, it is held
 pub open_due : (to_head : Bool) (of : Head) (fields : List Field) (q : List Item) → is_open of fields ≡ true
     → owed to_head at_start (head of fields ∷ q) ≡ owed to_head (head_held (head_front (start_of of) fields)) q
 open_due to_head (of_response status) fields q h = absurd (cc)
 open_due to_head (of_request control) fields q h =
-    ap (λ (c : Bool). final_out c (head_front (request control) fields) (content_of q) (trailers_of q))
+    ap (λ (f : Framing1). final_out f (head_front (request control) fields) (content_of q) (trailers_of q))
     (open_by (lengths fields) (is_bare (message_of (of_request control) fields q) (request control)) h ∙ bare_is (content_of q) (trailers_of q))
 
 -- content shows that there is a body
@@ -199,5 +214,5 @@ held_due to_head front (x ∷ bytes) q some = refl
 
 -- the trailer section shows whether there is one
 pub held_trailers_due : (to_head : Bool) (front : List ℕ) (fields : List Field) (q : List Item)
-    → owed to_head (head_held front) (trailer_section fields ∷ q) ≡ final_out (has_body [] fields) front [] fields ++ []
-held_trailers_due to_head front fields q = sym (append-nil (final_out (has_body [] fields) front [] fields))
+    → owed to_head (head_held front) (trailer_section fields ∷ q) ≡ final_out (framing_left [] fields) front [] fields ++ []
+held_trailers_due to_head front fields q = sym (append-nil (final_out (framing_left [] fields) front [] fields))

@@ -1,10 +1,11 @@
 -- There is room for each target and each head within the limits.
 use Rattle.std.proofs.Common.{◌≡◌, ◌≤◌, ◌<◌, ◌+◌, ◌*◌, ℕ, Bool, true, false, cond, List, [], ◌∷◌, ◌++◌, length, codes, bytes_eq, ap, arith, length-append}
-use Rattle.bh_spec.specs.Messages.{Field, Control, request}
+use Rattle.bh_spec.specs.Messages.{Field, Control, request, response}
 use Rattle.bh_spec.specs.Items.{Head, of_request, of_response}
 use Rattle.bh_model.specs.Lines.{line_room, lines_room}
 use Rattle.h1_spec.specs.Cleaning.{is_empty}
 use Rattle.h1_spec.specs.Grammar.{crlf}
+use Rattle.h1_spec.specs.Heads.{three_digits}
 use Rattle.h1_spec.specs.Http1Text.{field_line, field_lines, target_text, host_lines, start_line}
 use Rattle.h1_text.specs.Owed.{head_front, head_end}
 use Rattle.h1_text.specs.Writers.{before_all, HasRoom}
@@ -91,3 +92,15 @@ module _ (part : ℕ) (c : Control) (method : length c.method ≤ part) (scheme 
       few,
     ),
   )
+
+-- that of a response is shorter
+pub response_room : (part : ℕ) (to_head : Bool) (section status : ℕ) (fields : List Field) → lines_room fields ≤ section → HasRoom (before_all to_head (3 * part + 3) (5 * part + 2 * section + 54)) (of_response status) fields
+response_room part to_head section status fields few =
+    omega (
+      arith,
+      length-append (start_line (response [] status)) (field_lines fields),
+      length-append (codes "HTTP/1.1 ") (three_digits status ++ (32 ∷ crlf)),
+      length-append (three_digits status) (32 ∷ crlf),
+      text_long fields,
+      few,
+    )

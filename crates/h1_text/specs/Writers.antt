@@ -1,5 +1,5 @@
 -- What contracts see of a writer of HTTP/1.1.
-use Rattle.std.specs.Prelude.{◌≡◌, ◌≤◌, ◌<◌, ◌+◌, ◌*◌, ℕ, Bool, true, List, [], ◌∷◌, ◌++◌, length, drop, vec_len, vec_capacity, Result, Some}
+use Rattle.std.specs.Prelude.{◌≡◌, ◌≤◌, ◌<◌, ◌+◌, ◌*◌, ℕ, Bool, true, false, List, [], ◌∷◌, ◌++◌, length, drop, vec_len, vec_capacity, Result, Some}
 use Rattle.bh_spec.specs.declared.Omitted.{Omitted}
 use Rattle.bh_spec.specs.Bounds.{Bounds}
 use Rattle.bh_spec.specs.Messages.{Field, Start, request, response}
@@ -8,11 +8,12 @@ use Rattle.bh_base.specs.declared.failed.Failed.{Failed}
 use Rattle.bh_base.specs.Steps.{Step}
 use Rattle.h1_spec.specs.Heads.{request_line, status_line}
 use Rattle.h1_spec.specs.Heads as heads
-use Rattle.h1_spec.specs.Http1Text.{target_text, host_lines}
+use Rattle.h1_spec.specs.Http1Text.{target_text, host_lines, has_no_body}
 use Rattle.bh_stream.specs.Outputs.{Output}
 use Rattle.bh_stream.specs.Jobs.{Sends}
+use Rattle.h1_judge.specs.Courses.{start_of}
 use Rattle.h1_text.specs.Gathering.{GatheredView}
-use Rattle.h1_text.specs.Owed.{Duty, at_start, head_held, in_body, all_done, owed, held, head_front, head_end}
+use Rattle.h1_text.specs.Owed.{Duty, at_start, head_held, head_waits, in_body, all_done, owed, held, head_front, head_end}
 use Rattle.h1_text.specs.declared.stage.Stage.{Stage}
 use Rattle.h1_text.specs.declared.stage.Stage.TheVariants as stages
 use Rattle.h1_text.specs.declared.writer.Http1Writer.TheInside.{Inside}
@@ -39,42 +40,53 @@ IsAtStart L to_head v = (part section : ℕ) × (L.part ≡ Some part) × (L.sec
 abbrev pub HasRoom : Writing → Head → List Field → Type 0
 HasRoom v (of_request control) fields = (length (target_text control) ≤ v.target_room)
     × (length (head_front (request control) fields) + length (head_end true) < v.head_room)
-HasRoom v (of_response status) fields = Unit {0}
+HasRoom v (of_response status) fields = length (head_front (response [] status) fields) + length (head_end false) < v.head_room
 
--- behind the trailer section, or behind a head
+-- behind the trailer section
 abbrev pub EndComes : List Item → Type 0
 EndComes q = (omitted : Omitted) × (padding : ℕ) × (q ≡ ending omitted padding ∷ [])
 
-abbrev pub BodyComes : List Item → Type 0
-BodyComes [] = ⊥
-BodyComes ((interim_response status fields) ∷ q) = ⊥
-BodyComes ((head of fields) ∷ q) = ⊥
-BodyComes ((content_byte x) ∷ q) = BodyComes q
-BodyComes ((trailer_section fields) ∷ q) = EndComes q
-BodyComes ((ending omitted padding) ∷ q) = q ≡ []
+-- Behind the head of a message, of which it is said whether it has no body: then no content comes.
+abbrev pub BodyComes : Bool → List Item → Type 0
+BodyComes none [] = ⊥
+BodyComes none ((interim_response status fields) ∷ q) = ⊥
+BodyComes none ((head of fields) ∷ q) = ⊥
+BodyComes none ((content_byte x) ∷ q) = (none ≡ false) × BodyComes none q
+BodyComes none ((trailer_section fields) ∷ q) = EndComes q
+BodyComes none ((ending omitted padding) ∷ q) = q ≡ []
 
 -- before a head
 abbrev pub MessageComes : Writing → List Item → Type 0
 MessageComes v [] = ⊥
 MessageComes v ((interim_response status fields) ∷ q) = MessageComes v q
-MessageComes v ((head of fields) ∷ q) = HasRoom v of fields × BodyComes q
+MessageComes v ((head of fields) ∷ q) = HasRoom v of fields × BodyComes (has_no_body v.to_head (start_of of)) q
 MessageComes v ((content_byte x) ∷ q) = ⊥
 MessageComes v ((trailer_section fields) ∷ q) = ⊥
 MessageComes v ((ending omitted padding) ∷ q) = ⊥
 
 abbrev pub comes_to : Duty → Writing → List Item → Type 0
 comes_to at_start v q = MessageComes v q
-comes_to (head_held front) v q = BodyComes q
-comes_to (in_body chunked kept) v q = BodyComes q
+comes_to (head_held front) v q = BodyComes false q
+comes_to (head_waits whole) v q = BodyComes true q
+comes_to (in_body chunked kept) v q = BodyComes false q
 comes_to all_done v q = EndComes q
 
 abbrev pub takes : Writing → List Item → Type 0
 takes v q = comes_to v.duty v q
 
--- is the body's turn, or may it be?
+-- is it the turn of content, or may it be?
+abbrev pub MayHaveBody : Duty → Type 0
+MayHaveBody at_start = ⊥
+MayHaveBody (head_held front) = Unit {0}
+MayHaveBody (head_waits whole) = ⊥
+MayHaveBody (in_body chunked kept) = Unit {0}
+MayHaveBody all_done = ⊥
+
+-- is it the turn of the trailer section, or may it be?
 abbrev pub IsBehindHead : Duty → Type 0
 IsBehindHead at_start = ⊥
 IsBehindHead (head_held front) = Unit {0}
+IsBehindHead (head_waits whole) = Unit {0}
 IsBehindHead (in_body chunked kept) = Unit {0}
 IsBehindHead all_done = ⊥
 
@@ -101,6 +113,7 @@ JobSends step v w items s r t =
 abbrev pub duty_of : Stage → List ℕ → List ℕ → Duty
 duty_of stages.Start front kept = at_start
 duty_of stages.Held front kept = head_held front
+duty_of stages.Bodyless front kept = head_waits front
 duty_of (stages.Body chunked) front kept = in_body chunked kept
 duty_of stages.Ended front kept = all_done
 
@@ -127,6 +140,7 @@ IsFramed items = (kept : List ℕ) × (items ≡ framed kept)
 abbrev pub IsStage : Stage → GatheredView → List ℕ → Type 0
 IsStage stages.Start front kept = kept ≡ []
 IsStage stages.Held front kept = (kept ≡ []) × (length (head_end true) < front.room)
+IsStage stages.Bodyless front kept = kept ≡ []
 IsStage (stages.Body chunked) front kept = Unit {0}
 IsStage stages.Ended front kept = Unit {0}
 

@@ -3,7 +3,7 @@ ghost use Rattle.std.specs.Prelude.{◌≡◌, ◌≤◌, ◌<◌, ◌++◌, [],
 ghost use Rattle.h1_spec.specs.Heads.{IsHeadField};
 ghost use Rattle.bh_stream.specs.Jobs.{SendsRest};
 ghost use Rattle.bh_stream.specs.Outputs.{plain};
-ghost use Rattle.h1_text.specs.Owed.{head_end, body_out, final_out, has_body};
+ghost use Rattle.h1_text.specs.Owed.{head_end, body_out, final_out, framing_left};
 ghost use Rattle.h1_text.specs.Holding.{Keeps};
 ghost use Rattle.h1_text.specs.Ends.{piece_out, end_out};
 ghost use Rattle.h1_text.specs.Writers.{framed, IsFramed, IsStage, room_of};
@@ -110,11 +110,11 @@ fn send_last<S: Sink>(kept: &[u8], sink: &mut S, trailers: &Fields) -> Result<()
     write_last(sink, trailers)
 }
 
-/// Sends the head that is held, of a message without content, and its body.
+/// Sends the head of a request that is held, without content, and its body.
 fn send_held<S: Sink>(head: &mut Gathered, sink: &mut S, trailers: &Fields) -> Result<(), Failed>
     requires room { length (head_end true) < head.old.room }
     requires trailers { All IsHeadField trailers.now.lines }
-    ensures sends { SendsRest S.write_step true (final_out (has_body [] trailers.now.lines) head.old.bytes [] trailers.now.lines)
+    ensures sends { SendsRest S.write_step true (final_out (framing_left [] trailers.now.lines) head.old.bytes [] trailers.now.lines)
         sink.old result sink.new }
     ensures room { room_of head.new ≡ room_of head.old }
 {
@@ -141,6 +141,7 @@ pub(crate) fn send_end<S: Sink>(
 {
     match stage {
         Stage::Held => send_held(head, sink, trailers),
+        Stage::Bodyless => write_all(sink, head.as_slice()),
         Stage::Body { chunked } => {
             if chunked {
                 send_last(kept, sink, trailers)

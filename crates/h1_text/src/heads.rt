@@ -1,6 +1,6 @@
 //! Heads, as what is cleaned says them.
 ghost use Rattle.std.specs.Prelude.{◌≡◌, ◌<◌, ◌≤◌, ◌+◌, ◌++◌, ◌∷◌, ◌||◌, List, ℕ, [], false, not, nat_eq, option_map, codes, length};
-ghost use Rattle.bh_spec.specs.Messages.{request};
+ghost use Rattle.bh_spec.specs.Messages.{request, response};
 ghost use Rattle.bh_spec.specs.Items.{of_response};
 ghost use Rattle.bh_base.specs.Batches.{Writes};
 ghost use Rattle.bh_model.specs.Values.{control_lent};
@@ -13,7 +13,7 @@ ghost use Rattle.h1_text.specs.Writers.{head_of, room_of};
 use crate::gathered::Gathered;
 use bh_base::{Failed, Sink};
 use bh_model::{ControlView, Fields};
-use h1_head::{write_request_front, write_request_head};
+use h1_head::{write_request_front, write_request_head, write_response_head};
 
 /// Whether a line says how long the content is.
 pub(crate) fn has_length(fields: &Fields) -> bool
@@ -37,7 +37,7 @@ pub(crate) fn is_chunked(to_head: bool, status: u16, fields: &Fields) -> bool
 
 /// Whether a response has no body, whatever its fields say: where it answers HEAD, or with a status of 204 or 304 (RFC 9110, sections
 /// 9.3.2, 15.3.5 and 15.4.5).
-fn is_bodyless(to_head: bool, status: u16) -> bool
+pub(crate) fn is_bodyless(to_head: bool, status: u16) -> bool
     ensures { result ≡ has_none to_head status }
 {
     to_head || status == 204 || status == 304
@@ -106,4 +106,15 @@ pub(crate) fn hold(head: &mut Gathered, control: ControlView<'_>, target: &[u8],
 {
     head.clear();
     let _ = write_request_front(head, control.method, target, host_of(control), fields);
+}
+
+/// Holds the whole head of a response without a body, in the place of what was held.
+pub(crate) fn hold_whole(head: &mut Gathered, status: u16, fields: &Fields)
+    requires writable { IsWritable (head_of (response [] status) fields.now.lines) }
+    requires room { length (head_front (response [] status) fields.now.lines) + length (head_end false) < room_of head.old }
+    ensures bytes { head.new.bytes ≡ head_front (response [] status) fields.now.lines ++ head_end false }
+    ensures room { room_of head.new ≡ room_of head.old }
+{
+    head.clear();
+    let _ = write_response_head(head, status, fields, false);
 }

@@ -1,8 +1,7 @@
 //! Laws of what is written. The function is empty: its contract is the laws.
-ghost use Rattle.h1_text.specs.Laws.{OwesTheText, IsTheText};
+ghost use Rattle.h1_text.specs.Laws.{OwesTheText};
 
 /// What is owed for the items of a message is its text.
 pub fn the_text_is_owed()
-    ensures owes { OwesTheText }
-    ensures is { IsTheText }
+    ensures { OwesTheText }
 {}

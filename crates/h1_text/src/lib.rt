@@ -1,4 +1,5 @@
-//! The HTTP/1.1 text of a clean message, item by item: nothing is held but the head of a request whose body isn't known, and an open chunk.
+//! The HTTP/1.1 text of a clean message, item by item: nothing is held but the head of a request whose body isn't known, that of a response
+//! without a body, and an open chunk.
 #![tactic(auto)]
 
 mod bodies;

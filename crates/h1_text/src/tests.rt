@@ -1,7 +1,7 @@
 //! Messages over a sink in memory.
 ghost use Rattle.std.specs.Prelude.{◌≡◌, ◌≤◌, IfOk};
 ghost use Rattle.h1_text.specs.Owed.{at_start};
-ghost use Rattle.h1_text.specs.Writers.{IsBehindHead};
+ghost use Rattle.h1_text.specs.Writers.{MayHaveBody};
 
 use super::Http1Writer;
 use bh_base::{MemSink, NoMemory};
@@ -11,6 +11,7 @@ use std::alloc::Global;
 /// A writer before a message.
 fn start(alloc: Global, to_head: bool) -> Result<Http1Writer, NoMemory>
     ensures start { IfOk result (λ writer. writer.duty ≡ at_start) }
+    ensures to_head { IfOk result (λ writer. writer.to_head ≡ to_head) }
     ensures target { IfOk result (λ writer. 100 ≤ writer.target_room) }
     ensures head { IfOk result (λ writer. 100 ≤ writer.head_room) }
 {
@@ -19,8 +20,8 @@ fn start(alloc: Global, to_head: bool) -> Result<Http1Writer, NoMemory>
 
 /// Sends content, if there is any.
 fn put(writer: &mut Http1Writer, sink: &mut MemSink, content: &[u8]) -> bool
-    requires place { IsBehindHead writer.old.duty }
-    ensures place { IsBehindHead writer.new.duty }
+    requires place { MayHaveBody writer.old.duty }
+    ensures place { MayHaveBody writer.new.duty }
 {
     if content.is_empty() || content.len() > 8192 {
         return content.is_empty();
@@ -28,26 +29,42 @@ fn put(writer: &mut Http1Writer, sink: &mut MemSink, content: &[u8]) -> bool
     writer.content(sink, content).is_ok()
 }
 
-/// What is sent of a response behind an interim response, without lines and with an empty trailer section. Empty: a write failed.
+/// What is sent of a response behind an interim response, without lines and content and with an empty trailer section: with its head,
+/// and in all. Empty: a write failed.
 fn response(
     alloc: Global,
     to_head: bool,
     status: u16,
-    content: &[u8],
-) -> Result<Vec<u8>, NoMemory> {
+) -> Result<(Vec<u8>, Vec<u8>), NoMemory> {
     let none = Fields::with_room(alloc, 0, 0)?;
     let mut sink = MemSink::new(alloc, Vec::new(alloc), 9000)?;
     let mut writer = start(alloc, to_head)?;
     if status < 200 || status > 599 {
-        return Ok(Vec::new(alloc));
+        return Ok((Vec::new(alloc), Vec::new(alloc)));
     }
     if writer.interim(&mut sink, 103, &none).is_err() {
-        return Ok(Vec::new(alloc));
+        return Ok((Vec::new(alloc), Vec::new(alloc)));
     }
     if writer.response_head(&mut sink, status, &none).is_err() {
+        return Ok((Vec::new(alloc), Vec::new(alloc)));
+    }
+    let before = sink.sent().to_vec(alloc)?;
+    if writer.trailers(&mut sink, &none).is_err() {
+        return Ok((Vec::new(alloc), Vec::new(alloc)));
+    }
+    let all = sink.sent().to_vec(alloc)?;
+    Ok((before, all))
+}
+
+/// What is sent of a response of 200 with some content. Empty: a write failed.
+fn with_content(alloc: Global, content: &[u8]) -> Result<Vec<u8>, NoMemory> {
+    let none = Fields::with_room(alloc, 0, 0)?;
+    let mut sink = MemSink::new(alloc, Vec::new(alloc), 9000)?;
+    let mut writer = start(alloc, false)?;
+    if writer.response_head(&mut sink, 200, &none).is_err() {
         return Ok(Vec::new(alloc));
     }
-    if !put(&mut writer, &mut sink, content) || writer.trailers(&mut sink, &none).is_err() {
+    if !put(&mut writer, &mut sink, content) || writer.finish(&mut sink).is_err() {
         return Ok(Vec::new(alloc));
     }
     Ok(sink.sent().to_vec(alloc)?)
@@ -78,40 +95,35 @@ fn request(alloc: Global, content: &[u8]) -> Result<(Vec<u8>, Vec<u8>), NoMemory
 #[test]
 fn responses_are_written(rt: HostRuntime) -> Result<(), NoMemory> {
     let alloc = rt.alloc();
-    let rows: [(&str, bool, u16, &[u8], &[u8]); 4] = [
+    // Behind the interim response, what goes out at once, and what waits for the end.
+    let rows: [(&str, bool, u16, &[u8], &[u8]); 3] = [
         (
-            "a chunk",
-            false,
-            200,
-            b"abc",
-            b"HTTP/1.1 103 \r\n\r\nHTTP/1.1 200 \r\ntransfer-encoding: chunked\r\n\r\n3\r\nabc\r\n0\r\n\r\n",
-        ),
-        (
-            "no content",
+            "a body",
             false,
             500,
-            b"",
-            b"HTTP/1.1 103 \r\n\r\nHTTP/1.1 500 \r\ntransfer-encoding: chunked\r\n\r\n0\r\n\r\n",
+            b"HTTP/1.1 500 \r\ntransfer-encoding: chunked\r\n\r\n",
+            b"0\r\n\r\n",
         ),
         (
             "an answer to HEAD",
             true,
             200,
             b"",
-            b"HTTP/1.1 103 \r\n\r\nHTTP/1.1 200 \r\n\r\n",
+            b"HTTP/1.1 200 \r\n\r\n",
         ),
-        (
-            "no body",
-            false,
-            304,
-            b"",
-            b"HTTP/1.1 103 \r\n\r\nHTTP/1.1 304 \r\n\r\n",
-        ),
+        ("no body", false, 304, b"", b"HTTP/1.1 304 \r\n\r\n"),
     ];
-    for (shows, to_head, status, content, text) in rows {
-        let got = response(alloc, to_head, status, content)?;
-        assert_eq!(rt; got, text.to_vec(alloc)?, "{shows}");
+    for (shows, to_head, status, at_once, later) in rows {
+        let got = response(alloc, to_head, status)?;
+        let mut text = b"HTTP/1.1 103 \r\n\r\n".to_vec(alloc)?;
+        text.extend_from_slice(at_once)?;
+        let before = text.to_vec(alloc)?;
+        text.extend_from_slice(later)?;
+        assert_eq!(rt; got, (before, text), "{shows}");
     }
+    let chunk = with_content(alloc, b"abc")?;
+    let text = b"HTTP/1.1 200 \r\ntransfer-encoding: chunked\r\n\r\n3\r\nabc\r\n0\r\n\r\n";
+    assert_eq!(rt; chunk.as_slice(), text.as_slice(), "a chunk");
     Ok(())
 }
 

@@ -1,18 +1,21 @@
 //! The writer.
-ghost use Rattle.std.specs.Prelude.{◌≡◌, ◌≤◌, ◌<◌, ◌∷◌, [], true, IfOk, length, map, All};
+ghost use Rattle.std.specs.Prelude.{◌≡◌, ◌≤◌, ◌<◌, ◌∷◌, [], true, false, IfOk, length, map, All};
 ghost use Rattle.bh_spec.specs.declared.Omitted.{Omitted};
 ghost use Rattle.bh_spec.specs.Messages.{request, response};
 ghost use Rattle.bh_spec.specs.Items.{interim_response, head, content_byte, trailer_section, ending, of_request, of_response};
 ghost use Rattle.bh_model.specs.Values.{control_lent};
+ghost use Rattle.h1_spec.specs.Framing.{is_bodyless as has_none};
 ghost use Rattle.h1_spec.specs.Heads.{IsHeadField};
 ghost use Rattle.h1_spec.specs.Written.{IsWritable};
 ghost use Rattle.bh_stream.specs.Jobs.{SendsRest};
 ghost use Rattle.h1_text.specs.Owed.{at_start, owed};
-ghost use Rattle.h1_text.specs.Writers.{before_all, IsAtStart, HasRoom, IsBehindHead, head_of, JobSends};
+ghost use Rattle.h1_text.specs.Writers.{before_all, IsAtStart, HasRoom, MayHaveBody, IsBehindHead, head_of, JobSends};
 
 use crate::bodies::{content_of, keep, restart, send_end, send_head};
 use crate::gathered::Gathered;
-use crate::heads::{has_length, hold, is_chunked, put_target, send_request};
+use crate::heads::{
+    has_length, hold, hold_whole, is_bodyless, is_chunked, put_target, send_request,
+};
 use crate::stage::Stage;
 use bh_base::{Failed, NoMemory, Sink};
 use bh_model::{ControlView, Fields, Limits};
@@ -25,7 +28,7 @@ use std::mem;
 const ROOM: usize = 8200;
 
 /// Writes the HTTP/1.1 text of clean messages, one after the other. It holds the head of a request that has no content length until its
-/// body is known, and an open chunk of content.
+/// body is known, that of a response without a body until the message ends, and an open chunk of content.
 #[derive(Drop)]
 pub struct Http1Writer {
     /// Does the message answer HEAD?
@@ -100,7 +103,8 @@ impl Http1Writer {
         write_response_head(sink, status, fields, false)
     }
 
-    /// The head of a response goes out.
+    /// The head of a response goes out, or is held where it has no body: to HEAD, or with a status of 204 or 304 (RFC 9110, sections
+    /// 9.3.2, 15.3.5 and 15.4.5).
     pub fn response_head<S: Sink>(
         &mut self,
         sink: &mut S,
@@ -109,9 +113,16 @@ impl Http1Writer {
     ) -> Result<(), Failed>
         requires start { self.old.duty ≡ at_start }
         requires writable { IsWritable (head_of (response [] status) fields.now.lines) }
+        requires room { HasRoom self.old (of_response status) fields.now.lines }
         ensures next { IsBehindHead self.new.duty }
+        ensures body { has_none self.old.to_head status ≡ false → MayHaveBody self.new.duty }
         ensures sends { JobSends S.write_step self.old self.new (head (of_response status) fields.now.lines ∷ []) sink.old result sink.new }
     {
+        if is_bodyless(self.to_head, status) {
+            self.stage = Stage::Bodyless;
+            hold_whole(&mut self.head, status, fields);
+            return Ok(());
+        }
         let chunked = is_chunked(self.to_head, status, fields);
         self.stage = Stage::Body { chunked };
         write_response_head(sink, status, fields, chunked)
@@ -127,7 +138,7 @@ impl Http1Writer {
         requires start { self.old.duty ≡ at_start }
         requires writable { IsWritable (head_of (request (control_lent control)) fields.now.lines) }
         requires room { HasRoom self.old (of_request (control_lent control)) fields.now.lines }
-        ensures next { IsBehindHead self.new.duty }
+        ensures next { MayHaveBody self.new.duty }
         ensures sends { JobSends S.write_step self.old self.new (head (of_request (control_lent control.entry)) fields.now.lines ∷ [])
             sink.old result sink.new }
     {
@@ -143,10 +154,10 @@ impl Http1Writer {
 
     /// Content is kept, and goes out in chunks, or as it is. A head that is held goes out before it.
     pub fn content<S: Sink>(&mut self, sink: &mut S, bytes: &[u8]) -> Result<(), Failed>
-        requires place { IsBehindHead self.old.duty }
+        requires place { MayHaveBody self.old.duty }
         requires some { 0 < length bytes.now }
         requires size { length bytes.now ≤ 8192 }
-        ensures next { IsBehindHead self.new.duty }
+        ensures next { MayHaveBody self.new.duty }
         ensures sends { JobSends S.write_step self.old self.new (map content_byte bytes.now) sink.old result sink.new }
     {
         if let Stage::Body { chunked } = self.stage {

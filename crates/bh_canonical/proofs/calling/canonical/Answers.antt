@@ -1,6 +1,8 @@
 use Rattle.std.proofs.Common.{true, sym, subst}
 use Rattle.bh_stream.specs.Runs.{Streams}
+use Rattle.bh_stream.proofs.Coming.{fits_all}
 use Rattle.bh_reading.specs.Readings.{rest, room, Moved, refuses, tells, misses}
+use Rattle.bh_reading.specs.ReadingLaws.{reading_laws}
 use Rattle.bh_reading.proofs.AtStart.{ready_at_start}
 use Rattle.bh_reading.proofs.Coming.{comes_at_start}
 use Rattle.bh_canonical.specs.Writers.{Writing, owed, takes}
@@ -11,9 +13,10 @@ pub stream-requires-clause-ready : goal.stream-requires-clause-ready
 stream-requires-clause-ready g c = ready_at_start c.args.reading.now.held.decoder.limits c.requires.limits c.begin.new.self c.begin.ensures
 
 pub stream-requires-clause-fits : goal.stream-requires-clause-fits
-stream-requires-clause-fits g c = λ q t h.
+stream-requires-clause-fits g c =
     let L = c.args.reading.now.held.decoder.limits in
-    subst (λ (w : Writing). takes w q) (sym c.begin-2.ensures) (L, c.requires.limits, comes_at_start L c.requires.limits c.begin.new.self c.begin.ensures q t h)
+    fits_all reading_laws c.begin.new.self (takes c.begin-2.new.self)
+    (λ q t h. subst (λ (w : Writing). takes w q) (sym c.begin-2.ensures) (L, c.requires.limits, comes_at_start L c.requires.limits c.begin.new.self c.begin.ensures q t h))
 
 pub returns-clause-call : goal.returns-clause-call
 returns-clause-call g c =

@@ -1,4 +1,4 @@
-use Rattle.std.proofs.Common.{◌≡◌, ◌<◌, ◌≤◌, length, take, refl, ◌∙◌, arith, length-take}
+use Rattle.std.proofs.Common.{◌≡◌, ◌<◌, ◌≤◌, [], length, take, refl, ◌∙◌, arith, length-take}
 use Rattle.bh_stream.proofs.Turns.{call_start, call_on, call_cut, call_refused, call_fault}
 use Rattle.bh_stream.proofs.Closing.{call_ended, call_done, call_stopped, empty_read}
 use Rattle.bh_stream.proofs.streaming.stream.Goals as goal
@@ -118,4 +118,5 @@ returns-in-Err-finish-2 g c =
 pub finish-requires-in-Ok-finish-clause-fits : goal.finish-requires-in-Ok-finish-clause-fits
 finish-requires-in-Ok-finish-clause-fits g c =
     let whole = c.in-Ok-finish.ensures.finished in
-    (whole.0, whole.1, c.loop-count.invariant.so_far.fits _ _ whole.2)
+    let so = c.loop-count.invariant.so_far in
+    (whole.0, whole.1, so.fits.at_end [] [] c.loop-count.decoder (g.met.D.Decode.laws.stays c.loop-count.decoder so.is_ready) whole.0 whole.1 whole.2)

@@ -1,4 +1,4 @@
-use Rattle.std.proofs.Common.{◌≡◌, ◌≤◌, ◌-◌, ℕ, List, ◌++◌, length, take, drop, refl, ap, sym, ◌∙◌, arith, length-drop, length-take, length-append}
+use Rattle.std.proofs.Common.{◌≡◌, ◌≤◌, ◌-◌, ℕ, List, ◌++◌, length, take, drop, refl, ap, ◌∙◌, arith, length-drop, length-take, length-append}
 use Rattle.std.proofs.lemmas.Grind.{common_steps}
 use Rattle.h1_text.specs.Ends.{piece_out}
 use Rattle.h1_text.proofs.Sending.{goes_as}

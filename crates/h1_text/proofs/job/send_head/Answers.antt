@@ -11,5 +11,5 @@ request_head-requires-clause-writable g c =
 
 pub response_head-requires-clause-writable : goal.response_head-requires-clause-writable
 response_head-requires-clause-writable g c =
-    response_shown c.args.decoder.now c.args.writer.now c.requires c.in-Some-status.status c.cleaned-in-Some-status.result.now.lines
-    (c.in-Some-status.ensures ∙ ap (λ (h : Held). status_shown h.head) c.decoder-shown.ensures) c.cleaned-in-Some-status.ensures.lines
+    (response_shown c.args.decoder.now c.args.writer.now c.requires c.in-Some-status.status c.cleaned-in-Some-status.result.now.lines
+    (c.in-Some-status.ensures ∙ ap (λ (h : Held). status_shown h.head) c.decoder-shown.ensures) c.cleaned-in-Some-status.ensures.lines).0
