@@ -11,7 +11,7 @@ use Rattle.h1_spec.specs.Heads as heads
 use Rattle.h1_spec.specs.Http1Text.{target_text, host_lines, has_no_body}
 use Rattle.bh_stream.specs.Outputs.{Output}
 use Rattle.bh_stream.specs.Jobs.{Sends}
-use Rattle.h1_judge.specs.Courses.{start_of}
+use Rattle.h1_spec.specs.Http1.{start_of}
 use Rattle.h1_text.specs.Gathering.{GatheredView}
 use Rattle.h1_text.specs.Owed.{Duty, at_start, head_held, head_waits, in_body, all_done, owed, held, head_front, head_end}
 use Rattle.h1_text.specs.declared.stage.Stage.{Stage}
