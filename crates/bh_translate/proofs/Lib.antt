@@ -3,3 +3,4 @@ pub mod Joining
 pub mod Starting
 pub mod IntoEnding
 pub mod IntoFacts
+pub mod FromFacts
