@@ -1,5 +1,5 @@
 -- How a translation from HTTP/1.1 ended, by the calls of its port.
-use Rattle.std.specs.Prelude.{◌≡◌, ◌<◌, ◌+◌, ◌⊎◌, ℕ, Bool, true, List, ◌++◌, length, take, Option, Some, None}
+use Rattle.std.specs.Prelude.{◌≡◌, ◌⊎◌, ℕ, Bool, true, List, length, Option, Some, None}
 use Rattle.bh_spec.specs.declared.H1Why.{H1Why}
 use Rattle.bh_spec.specs.declared.H1Why.TheVariants as why
 use Rattle.bh_spec.specs.declared.Omitted.TheVariants.{Nothing}
@@ -7,7 +7,6 @@ use Rattle.bh_spec.specs.declared.Summary.{Summary}
 use Rattle.bh_spec.specs.Bounds.{Bounds}
 use Rattle.bh_spec.specs.Messages.{Message}
 use Rattle.bh_spec.specs.Texts.{Text}
-use Rattle.bh_spec.specs.Pieces.{SomeOf}
 use Rattle.bh_spec.specs.Viable.{IsMessageText}
 use Rattle.bh_spec.specs.Canonical.{canon}
 use Rattle.bh_spec.specs.Reports.{summary}
@@ -19,18 +18,15 @@ use Rattle.bh_stream.specs.Calls.{PortCall}
 use Rattle.bh_stream.specs.declared.streaming.End.{End}
 use Rattle.bh_stream.specs.declared.streaming.End.TheVariants as end
 use Rattle.h1_spec.specs.declared.Scheme1.{Scheme1}
-use Rattle.h1_spec.specs.Http1.{IsHttp1}
-use Rattle.h1_spec.specs.Marks.{IsMarked}
-use Rattle.h1_spec.specs.Translation.{IsCause, FromAnswer, read, broken, IsFromAnswer}
+use Rattle.h1_spec.specs.Marks.{IsMarked, IsSomeMarked}
+use Rattle.h1_spec.specs.Translation.{FromAnswer, read, broken, IsFromAnswer}
+use Rattle.h1_read.specs.Laws.{IsDecidedAt}
 use Rattle.bh_translate.specs.declared.from.FromEnd.{FromEnd}
 use Rattle.bh_translate.specs.declared.from.FromEnd.TheVariants as ends
 
--- a text of this message, with the scheme of the caller, and of some message
+-- a text of this message, with the scheme of the caller
 abbrev pub IsTextFrom : Bounds → Scheme1 → Bool → Message → Text → Type 0
 IsTextFrom L scheme to_head m t = (marked : IsMarked L to_head m t) × (marked.scheme ≡ scheme)
-
-abbrev pub IsSomeText : Bounds → Scheme1 → Bool → Text → Type 0
-IsSomeText L scheme to_head t = SomeOf (IsTextFrom L scheme to_head) t
 
 -- The bytes taken are a message, this is its summary, and its canonical text was given. An HTTP/1.1 text leaves nothing out, and has no
 -- padding.
@@ -41,18 +37,8 @@ pub record IsRead (L : Bounds) (scheme : Scheme1) (to_head : Bool) (s : Summary)
   pub summary_is : s ≡ summary message Nothing 0 (length (taken steps))
   pub gave : given steps ≡ canon message
 
--- the bytes are a message, or end before it does
-abbrev pub IsOpen : Bounds → Scheme1 → Bool → List ℕ → Type 0
-IsOpen L scheme to_head bytes = ((m : Message) × IsHttp1 L scheme to_head m bytes) ⊎ IsCause L scheme to_head bytes why.Ended
-
--- With this byte, and not before it, it is decided that the bytes are no message, and why: whatever follows.
-pub record IsDecidedAt (L : Bounds) (scheme : Scheme1) (to_head : Bool) (bytes : List ℕ) (at : ℕ) (cause : H1Why) : Type 0 where
-  pub inside : at < length bytes
-  pub before : IsOpen L scheme to_head (take at bytes)
-  pub with_it : (more : List ℕ) → IsFromAnswer L scheme to_head (take (at + 1) bytes ++ more) (broken cause)
-
--- A byte decides, and stops the call in the read that shows it; or the end is met, and it is too soon. `Ended` is the cause of an end
--- alone.
+-- A byte decides, whatever follows it, and not those before it; it stops the call in the read that shows it. Or the end is met, and it is
+-- too soon: that alone is `Ended`.
 abbrev pub IsBroken : Bounds → Scheme1 → Bool → H1Why → List Step → Type 0
 IsBroken L scheme to_head cause steps =
     ((cause ≡ why.Ended → ⊥) × ((at : ℕ) × ReadsTo at steps × IsDecidedAt L scheme to_head (taken steps) at cause))
@@ -73,7 +59,7 @@ pub record FromCall (L : Bounds) (scheme : Scheme1) (to_head : Bool) {S : Type 0
     (r : End Summary H1Why) (t : S) : Type 0 where
   pub steps : List Step
   pub call : PortCall L.input (GivesAlways (IsTextFrom L scheme to_head) canon L.input) (FromEnds L scheme to_head) read write steps s r t
-  pub keeps_up : KeepsUp (IsSomeText L scheme to_head) (HasBody (IsMessageText L)) 16383 8191 steps
+  pub keeps_up : KeepsUp (IsSomeMarked L to_head) (HasBody (IsMessageText L)) 16383 8191 steps
 
 -- The end that is right for an input, and what was sent with it.
 abbrev pub IsRightFrom : Bounds → Scheme1 → Bool → End Summary H1Why → List ℕ → List ℕ → Type 0
@@ -100,7 +86,7 @@ FromCompletes L scheme to_head port s r t = CompletesAs (IsFromAnswer L scheme t
 -- What holds at every point of the calls, by their bytes, and so at every point of the log.
 pub record FromPoint (L : Bounds) (scheme : Scheme1) (to_head : Bool) (steps : List Step) : Type 0 where
   pub gives : GivesFront (IsTextFrom L scheme to_head) canon L.input steps
-  pub keeps_up : IsClose (IsSomeText L scheme to_head) (HasBody (IsMessageText L)) 16383 steps
+  pub keeps_up : IsClose (IsSomeMarked L to_head) (HasBody (IsMessageText L)) 16383 steps
 
 abbrev pub FromLog : Bounds → Scheme1 → Bool → List Entry → Type 0
 FromLog L scheme to_head log = AtEveryEntry (FromPoint L scheme to_head) log
