@@ -1,6 +1,7 @@
 -- All that is said of a translation from HTTP/1.1, by what the loop did: for a decoder that knows HTTP/1.1, and a job that owes canonical
 -- texts.
-use Rattle.std.proofs.Common.{◌≡◌, ◌≤◌, ◌<◌, ◌+◌, ◌⊎◌, arith, ℕ, zero, suc, Bool, true, List, [], ◌∷◌, ◌++◌, length, take, drop, take-append-drop, replicate, length-replicate, Option, Some, None, refl, sym, ap, subst, ◌∙◌, append-nil, append_assoc, length-append, inl, inr}
+use Rattle.std.proofs.Common.{◌≡◌, ◌≤◌, ◌<◌, ◌+◌, ◌⊎◌, arith, ℕ, zero, suc, Bool, true, List, [], ◌∷◌, ◌++◌, length, take, drop, take-append-drop, replicate, Option, Some, None, refl, sym, ap, subst, ◌∙◌, append-nil, append_assoc, length-append, inl, inr}
+use Rattle.std.proofs.lemmas.List.{length-replicate}
 use Rattle.std.specs.Io.KnownBytes.{IsAtEnd}
 use Rattle.bh_spec.specs.declared.H1Why.{H1Why}
 use Rattle.bh_spec.specs.declared.H1Why.TheVariants as why
@@ -104,7 +105,7 @@ never_ended L limits scheme to_head front h = by_length (h long)
     long = replicate (limits.input + 1) 0
 
     too_many : IsWithin L.input (length (front ++ long)) → ⊥
-    too_many w = absurd (omega (arith, subst (λ (K : Bounds). IsWithin K.input (length (front ++ long))) limits.same w, length-append front long, length-replicate (limits.input + 1) 0))
+    too_many w = absurd (omega (arith, subst (λ (K : Bounds). IsWithin K.input (length (front ++ long))) limits.same w, length-append front long, length-replicate {A = ℕ} (limits.input + 1) 0))
 
     by_length : IsFromAnswer L scheme to_head (front ++ long) (broken why.Ended) → ⊥
     by_length (inl a) = too_many a.0

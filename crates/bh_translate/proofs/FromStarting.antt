@@ -13,6 +13,7 @@ use Rattle.bh_spec.specs.Canonical.{canon}
 use Rattle.bh_spec.specs.Items.{Item}
 use Rattle.bh_base.specs.Steps.{Step, Entry, ReadFacts, WriteFacts, ReadLeaves, WriteLeaves}
 use Rattle.bh_model.specs.Ranges.{AreLimits}
+use Rattle.bh_stream.specs.Outputs.{written}
 use Rattle.bh_stream.specs.Logs.{HasBody}
 use Rattle.bh_stream.specs.Decoding.{DecoderLaws}
 use Rattle.bh_stream.specs.Formats.{Knows, ShowsContent}
@@ -53,7 +54,7 @@ module _ (L : Bounds) (limits : AreLimits L) (scheme : Scheme1) (to_head : Bool)
       (no_trailers L (framing to_head whole.head) s.message.content whole.trailers whole.text.3.1 whole.text.3.3 (λ e. some (h.omitted ∙ e)))
 
   -- the writer at the start owes the canonical text, of which each front shows the content that it has
-  owes : (s : Spelled) (t : Text) → IsHttp1Text L scheme to_head s t → _
+  owes : (s : Spelled) (t : Text) → IsHttp1Text L scheme to_head s t → written (message_owed false (items_in s)) ≡ canon s.message
   owes s t h = owes_items s.message s.omitted s.padding (is_left_out s t h)
 
   shows : ShowsContent (IsHttp1Text L scheme to_head) items_in (HasBody (IsMessageText L)) (message_owed false)
