@@ -1,3 +1,4 @@
+pub mod HeadJudges
 pub mod Places
 pub mod Wrong
 pub mod Readings

@@ -1,2 +1,6 @@
-//! HTTP/1.1 messages, read in pieces of any length.
+//! An HTTP/1.1 message, read in pieces.
 #![tactic(auto)]
+
+mod heads;
+#[cfg(test)]
+mod tests;

@@ -19,7 +19,7 @@ use Rattle.h1_spec.proofs.HeadTexts.{head_front}
 use Rattle.h1_spec.proofs.BodyTexts.{body_same}
 use Rattle.h1_spec.proofs.TargetTexts.{target_once}
 
-within_front : (K L : Bounds) (h k : Head) → Front (h ≡ k) (IsHeadWithin K h) (IsHeadWithin L k)
+pub within_front : (K L : Bounds) (h k : Head) → Front (h ≡ k) (IsHeadWithin K h) (IsHeadWithin L k)
 within_front K L h k x y r s p q = head_front h k x y r s p.1 q.1
 
 interim_is : (i j : Interim) → i.status ≡ j.status → i.fields ≡ j.fields → i ≡ j
@@ -61,7 +61,7 @@ pub message_is : (a b : Start) (fs gs : List Field) (c d : List ℕ) (ts us : Li
     → let m : Message = record { start = a; fields = fs; content = c; trailers = ts } in let n : Message = record { start = b; fields = gs; content = d; trailers = us } in m ≡ n
 message_is a b fs gs c d ts us p q r s = λ i. record { start = p i; fields = q i; content = r i; trailers = s i }
 
-start_once : (scheme : Scheme1) (h k : Head) (a b : Start) → h ≡ k → interims_of a ≡ interims_of b → IsStartOf scheme h a → IsStartOf scheme k b → a ≡ b
+pub start_once : (scheme : Scheme1) (h k : Head) (a b : Start) → h ≡ k → interims_of a ≡ interims_of b → IsStartOf scheme h a → IsStartOf scheme k b → a ≡ b
 start_once scheme h k (request c) (request d) e f p q =
     let line : request_line c.method p.0 ≡ request_line d.method q.0 = sym p.1 ∙ ap (λ (z : Head). z.start) e ∙ q.1 in
     let method : c.method ≡ d.method = cc in
