@@ -80,10 +80,6 @@ shows v events.Trailers item = (fields : List Field) × (item ≡ trailer_sectio
 abbrev pub IsWhole : Setting → Place → Type 0
 IsWhole S p = (omitted : Omitted) × (padding : ℕ) × RestFrom S p (ending omitted padding ∷ []) []
 
--- the message may end there, or there are too few bytes; nothing else is wrong yet
-abbrev pub IsOpen : Setting → Place → Type 0
-IsOpen S p = IsWhole S p ⊎ WrongFrom S p [] why.Ended
-
 -- With the byte of the piece numbered `at` this is wrong, whatever follows, and the byte is within the limit of the input.
 pub record IsFoundAt (v : View) (piece : List ℕ) (at : ℕ) (cause : H1Why) : Type 0 where
   pub wrong : (after : List ℕ) → WrongFrom v.setting v.place (take (at + 1) piece ++ after) cause
@@ -101,7 +97,7 @@ pub record Refuses (v : View) (piece : List ℕ) (cause : H1Why) : Type 0 where
   pub inside : at < length piece
   pub state : View
   pub moved : Moved v (take at piece) [] state
-  pub before : IsOpen state.setting state.place
+  pub before : IsWhole state.setting state.place ⊎ WrongFrom v.setting v.place (take at piece) why.Ended
   pub decided : IsFoundAt v piece at cause ⊎ IsTooLongAt v at cause
 
 abbrev pub misses : View → H1Why → Type 0
