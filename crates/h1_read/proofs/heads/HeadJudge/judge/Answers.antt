@@ -1,4 +1,4 @@
-use Rattle.std.proofs.Common.{◌≡◌, ◌<◌, ℕ, refl, subst, arith}
+use Rattle.std.proofs.Common.{◌≡◌, ℕ, refl, subst, arith}
 use Rattle.h1_spec.specs.Heads.{request_line, status_line, Head}
 use Rattle.h1_read.specs.HeadJudges.{view_of, Judges}
 use Rattle.h1_read.proofs.HeadAnswers.{judged, parsed_as, no_head, late_request}
