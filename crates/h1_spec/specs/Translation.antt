@@ -62,7 +62,8 @@ OfStart L scheme to_head interims head rest (status_line status) = why.Switching
 
 -- the same of a head whose end was found
 abbrev pub OfWholeHead : Bounds → Scheme1 → Bool → List Interim → List ℕ → List ℕ → Causes
-OfWholeHead L scheme to_head interims section rest = why.HeadForm when ((head : Head) → IsHead head section → IsNextStart interims head.start → ⊥)
+OfWholeHead L scheme to_head interims section rest =
+    why.HeadForm when ((head : Head) → IsHead head section → IsNextStart interims head.start → ⊥)
     else λ cause. (head : Head) × IsHead head section × IsNextStart interims head.start
     × OfStart L scheme to_head interims head rest head.start cause
 
