@@ -1,5 +1,5 @@
 -- What the answers for a start line and fields say of the bytes of a head.
-use Rattle.std.proofs.Common.{◌≡◌, ◌<◌, ◌≤◌, ◌+◌, ◌↔◌, inl, inr, false, ℕ, Bool, Some, Result, Ok, Err, List, [], ◌∷◌, length, refl, sym, ◌∙◌, ap, subst, arith}
+use Rattle.std.proofs.Common.{◌≡◌, ◌<◌, ◌≤◌, ◌+◌, ◌↔◌, inl, inr, false, ℕ, zero, suc, Bool, Some, Result, Ok, Err, List, [], ◌∷◌, length, refl, sym, ◌∙◌, ap, subst, arith}
 use Rattle.bh_spec.specs.Bounds.{Bounds, IsWithin}
 use Rattle.bh_spec.specs.Messages.{Field, Control, Interim, request}
 use Rattle.bh_spec.specs.Canonical.{ControlFits, FieldsFit}
@@ -49,6 +49,10 @@ status_said : (scheme : Scheme1) (head : Head) (of : Said) → IsStartOf scheme 
     → (status : ℕ) × (of ≡ of_response status)
 status_said scheme head (of_request control) start h = let own = start.1 in let other = h.1 in absurd (cc)
 status_said scheme head (of_response status) start h = (status, refl)
+
+pub none_before : (n : ℕ) → (0 < n → ⊥) → 0 ≡ n
+none_before zero h = refl
+none_before (suc n) h = absurd (h (omega arith))
 
 -- the answer for a start line and fields is that for the bytes that they stand in
 pub judged : (v w : JudgeView) (head : Head) (bytes : List ℕ) (before : ℕ) (result : Result HeadRead H1Why) → IsHeadWithin v.limits head bytes
