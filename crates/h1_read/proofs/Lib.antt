@@ -1,0 +1,5 @@
+pub mod HeadAnswers
+pub mod HeadRooms
+pub mod AtStart
+pub mod Judging
+pub mod Alive

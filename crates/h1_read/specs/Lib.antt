@@ -1,4 +1,6 @@
+pub mod HeadJudges
 pub mod Places
 pub mod Wrong
 pub mod Readings
+pub mod ReadingLaws
 pub mod Laws
