@@ -1,1 +1,5 @@
 pub mod HeadJudges
+pub mod Places
+pub mod Wrong
+pub mod Readings
+pub mod Laws

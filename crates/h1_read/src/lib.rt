@@ -1,4 +1,4 @@
-//! An HTTP/1.1 message, read in pieces.
+//! HTTP/1.1 messages, read in pieces of any length.
 #![tactic(auto)]
 
 mod heads;
