@@ -75,6 +75,7 @@ limit_says section seen piece head after spans fields r step = record {
       subst (λ (z : List ℕ). OfTrailers L nothing_behind z why.TrailerLimit) (append_assoc seen (take (at + 1) piece) more)
       (trailers_past L section (seen ++ take (at + 1) piece) more e full
       (subst HoldsNoEnd (step.seen ∙ ap (λ (n : ℕ). take n (head.seen ++ piece)) whole ∙ front ∙ sym (take_all (section + 2) (crlf ++ (seen ++ take (at + 1) piece)) exact)) step.none));
+  not_end = λ f. absurd (cc);
 }
   where
     long : length head.seen ≡ 2 + length seen
@@ -130,6 +131,7 @@ wrong_says section taken seen piece head after spans fields r step wrong = recor
       (subst (λ (z : List ℕ). OfTrailers L nothing_behind z why.TrailerForm) (append_assoc seen (take taken piece) more)
       (trailers_wrong L section x rest more e (subst (λ (n : ℕ). EndsAt (crlf ++ (x ++ rest)) n) long (subst (λ (z : List ℕ). EndsAt z (length head.seen + taken)) bytes step.ends))
       (fits section taken seen piece head after spans fields r step) wrong));
+  not_end = λ f. absurd (cc);
 }
   where
     x : List ℕ

@@ -12,6 +12,7 @@ use Rattle.bh_spec.specs.Items.{Item}
 use Rattle.bh_spec.specs.Residuals.{HasRest}
 use Rattle.bh_spec.proofs.Marks.{bytes_of-append, content-append}
 use Rattle.bh_stream.specs.Decoding.{IsSilent}
+use Rattle.bh_stream.proofs.Moving.{shorter, bytes-length}
 use Rattle.h1_spec.specs.Heads.{Head, EndsBlank, EndsAt, HoldsNoEnd}
 use Rattle.h1_spec.specs.Http1.{IsHeadWithin, IsInterimHead, interims_of}
 use Rattle.h1_spec.specs.Marks.{as_framing}
@@ -26,18 +27,6 @@ use Rattle.h1_read.specs.Places.{Setting, in_head, HeadRest, RestFrom}
 use Rattle.h1_read.specs.Wrong.{OfHeads, WrongFrom}
 use Rattle.h1_read.specs.Readings.{Goes}
 use Rattle.h1_read.specs.Readers.{NeedsAt, RefusedAt}
-
--- ---- lists
-
--- of two ways to cut a list, the longer front has the shorter one at its own front
-pub cut_behind : {A : Type 0} (a b c d : List A) → a ++ b ≡ c ++ d → length c ≤ length a → (e : List A) × (a ≡ c ++ e) × (d ≡ e ++ b)
-cut_behind a b [] d e h = (a, refl, sym e)
-cut_behind [] b (y ∷ c) d e h = absurd (omega (arith, h))
-cut_behind (x ∷ a) b (y ∷ c) d e h =
-    let same : x ≡ y = cc in
-    let rest : a ++ b ≡ c ++ d = cc in
-    let r = cut_behind a b c d rest (omega (arith, h)) in
-    (r.0, cc, r.2)
 
 pub heads_bytes : (heads : List ℕ) (body u : Text) → u ≡ as_framing heads ++ body → bytes_of u ≡ heads ++ bytes_of body
 heads_bytes heads body u e = ap bytes_of e ∙ bytes_of-append (as_framing heads) body ∙ ap (λ (l : List ℕ). l ++ bytes_of body) (framing_bytes heads)
@@ -67,7 +56,7 @@ in_heads : (seen heads b x more : List ℕ) (many : ℕ) → heads ++ b ≡ x ++
 in_heads seen heads b x more many e none ends =
     elim (cases_lt (length heads) (length x)) [
       | inl less ↦ (
-        let cut = cut_behind x more heads b (sym e) (omega (arith, less)) in
+        let cut = shorter heads b x more e (omega (arith, less)) in
         let longer : seen ++ x ≡ (seen ++ heads) ++ cut.0 = ap (λ (z : List ℕ). seen ++ z) cut.1 ∙ sym (append_assoc seen heads cut.0) in
         absurd (none many (subst EndsBlank (sym (ap (take many) longer ∙ take-append-le many (seen ++ heads) cut.0 ends.within)) ends.ends))
       )
@@ -112,7 +101,7 @@ head_goes S n seen x none = record {
     forth q u more h e =
         let joined : h.heads ++ bytes_of h.body ≡ x ++ more = sym (heads_bytes h.heads h.body u h.text_is) ∙ e in
         let end = some_end S.limits (interims_of h.start) h.head (seen ++ h.heads) h.text in
-        let cut = cut_behind h.heads (bytes_of h.body) x more joined (in_heads seen h.heads (bytes_of h.body) x more end.0 joined none end.1) in
+        let cut = shorter x more h.heads (bytes_of h.body) (sym joined) (in_heads seen h.heads (bytes_of h.body) x more end.0 joined none end.1) in
         record {
           thing = q;
           rest = as_framing cut.0 ++ h.body;
@@ -134,20 +123,16 @@ head_silent S n seen x none q front back more h e =
     let longer : seen ++ x ≡ (seen ++ bytes) ++ more = ap (λ (z : List ℕ). seen ++ z) e ∙ sym (append_assoc seen bytes more) in
     let quiet : HoldsNoEnd (seen ++ bytes) = subst HoldsNoEnd (ap (take (length (seen ++ bytes))) longer ∙ take-append_seam (seen ++ bytes) more) (none_front (length (seen ++ bytes)) (seen ++ x) none) in
     let few = in_heads seen h.heads (bytes_of h.body) bytes (bytes_of back) end.0 joined quiet end.1 in
-    let cut = cut_behind (as_framing h.heads) h.body front back (sym h.text_is) (omega (arith, few, bytes_long front, ap length (framing_bytes h.heads), bytes_long (as_framing h.heads))) in
+    let cut = shorter front back (as_framing h.heads) h.body h.text_is (omega (arith, few, bytes-length front, ap length (framing_bytes h.heads), bytes-length (as_framing h.heads))) in
     omega (arith, framing_none h.heads, ap content_in cut.1, content-append front cut.0)
-  where
-    bytes_long : (t : Text) → length (bytes_of t) ≡ length t
-    bytes_long [] = refl
-    bytes_long (x ∷ t) = ap suc (bytes_long t)
 
 -- ---- what is wrong in a head
 
-dummies : ℕ → List Interim
+abbrev pub dummies : ℕ → List Interim
 dummies zero = []
 dummies (suc n) = record { status = 0; fields = [] } ∷ dummies n
 
-many_dummies : (n : ℕ) → length (dummies n) ≡ n
+pub many_dummies : (n : ℕ) → length (dummies n) ≡ n
 many_dummies zero = refl
 many_dummies (suc n) = ap suc (many_dummies n)
 
@@ -162,6 +147,9 @@ of_next S n bytes cause few says = record {
   text = ([], bytes, refl, says (dummies n ++ []) (omega (arith, length-append (dummies n) [], many_dummies n)), refl);
 }
 
+same_some : (a b : ℕ) → Some a ≡ Some b → a ≡ b
+same_some a b e = cc
+
 -- there are too few bytes
 pub head_ended : (S : Setting) (n : ℕ) (seen x : List ℕ) (limit : ℕ) → IsWithin S.limits.interims n → S.limits.section ≡ Some limit → HoldsNoEnd (seen ++ x) → length (seen ++ x) < limit
     → WrongFrom S (in_head n seen) x why.Ended
@@ -173,9 +161,6 @@ head_ended S n seen x limit few e none room = of_next S n (seen ++ x) why.Ended 
   refl,
 )))
 
-same_some : (a b : ℕ) → Some a ≡ Some b → a ≡ b
-same_some a b e = cc
-
 -- the bytes that were seen, and so many of the piece
 front_is : (seen piece : List ℕ) (k : ℕ) → take (length seen + k) (seen ++ piece) ≡ seen ++ take k piece
 front_is seen piece k = take-append-add seen piece k
@@ -183,21 +168,21 @@ front_is seen piece k = take-append-add seen piece k
 -- As many bytes as the limit hold no end.
 pub head_past : (S : Setting) (n : ℕ) (heads after : ReaderView) (piece : List ℕ) → IsWithin S.limits.interims n → S.limits.section ≡ Some heads.limit
     → length heads.seen < heads.limit → IsPast heads piece after → RefusedAt S (in_head n heads.seen) piece why.HeadLimit
-head_past S n heads after piece few e open step = record {
+head_past S n heads after piece few e short step = record {
   at = at;
-  inside = omega (arith, open, step.many, length-append seen piece);
-  state = in_head n (seen ++ take at piece);
-  goes = head_goes S n seen (take at piece) quiet;
-  before = inr (head_ended S n seen (take at piece) heads.limit few e quiet (omega (arith, open, length-append seen (take at piece), length-take at piece)));
-  wrong = λ more. of_next S n (seen ++ (take (at + 1) piece ++ more)) why.HeadLimit few (λ before long. inl (
+  inside = omega (arith, short, step.many, length-append heads.seen piece);
+  state = in_head n (heads.seen ++ take at piece);
+  goes = head_goes S n heads.seen (take at piece) quiet;
+  before = inr (head_ended S n heads.seen (take at piece) heads.limit few e quiet (omega (arith, short, length-append heads.seen (take at piece), length-take at piece)));
+  wrong = λ more. of_next S n (heads.seen ++ (take (at + 1) piece ++ more)) why.HeadLimit few (λ before long. inl (
     record {
       most = heads.limit;
       limited = e;
-      long = omega (arith, full, length-append seen (take (at + 1) piece ++ more), length-append seen (take (at + 1) piece), length-append (take (at + 1) piece) more);
+      long = omega (arith, full, length-append heads.seen (take (at + 1) piece ++ more), length-append heads.seen (take (at + 1) piece), length-append (take (at + 1) piece) more);
       none = λ many less h.
-          let cut : take many (seen ++ (take (at + 1) piece ++ more)) ≡ take many after.seen =
-          ap (take many) (sym (append_assoc seen (take (at + 1) piece) more))
-          ∙ take-append-le many (seen ++ take (at + 1) piece) more (omega (arith, less, full)) ∙ ap (take many) (sym all) in
+          let cut : take many (heads.seen ++ (take (at + 1) piece ++ more)) ≡ take many after.seen =
+          ap (take many) (sym (append_assoc heads.seen (take (at + 1) piece) more))
+          ∙ take-append-le many (heads.seen ++ take (at + 1) piece) more (omega (arith, less, full)) ∙ ap (take many) (sym all) in
           step.none many (subst EndsBlank cut h.ends);
     },
     refl,
@@ -205,17 +190,14 @@ head_past S n heads after piece few e open step = record {
   not_end = λ f. absurd (cc);
 }
   where
-    seen : List ℕ
-    seen = heads.seen
-
     at : ℕ
     at = heads.limit - length heads.seen - 1
 
     all : after.seen ≡ heads.seen ++ take (at + 1) piece
-    all = step.seen ∙ ap (λ (k : ℕ). take k (heads.seen ++ piece)) (omega (arith, open)) ∙ front_is heads.seen piece (at + 1)
+    all = step.seen ∙ ap (λ (k : ℕ). take k (heads.seen ++ piece)) (omega (arith, short)) ∙ front_is heads.seen piece (at + 1)
 
     full : length (heads.seen ++ take (at + 1) piece) ≡ heads.limit
-    full = omega (arith, open, step.many, length-append heads.seen piece, length-append heads.seen (take (at + 1) piece), length-take (at + 1) piece)
+    full = omega (arith, short, step.many, length-append heads.seen piece, length-append heads.seen (take (at + 1) piece), length-take (at + 1) piece)
 
     quiet : HoldsNoEnd (heads.seen ++ take at piece)
     quiet = subst HoldsNoEnd (ap (take (length heads.seen + at)) all ∙ front_is heads.seen (take (at + 1) piece) at ∙ ap (λ (z : List ℕ). heads.seen ++ z) (take-take at (at + 1) piece (omega arith)))

@@ -1,2 +1,6 @@
-pub mod HeadAnswers
-pub mod HeadRooms
+mod HeadRooms
+mod HeadAnswers
+pub mod HeadSteps
+pub mod HeadEnds
+pub mod Completing
+pub mod BodyPlaces

@@ -1,5 +1,5 @@
 -- The judge of one whole head: what is kept of it, and what its calls answer.
-use Rattle.std.specs.Prelude.{ℕ, ◌≡◌, ◌<◌, ◌≤◌, ◌+◌, ◌*◌, ◌^◌, Bool, Option, Some, None, Result, Ok, Err, List, [], length, vec_len}
+use Rattle.std.specs.Prelude.{ℕ, ◌≡◌, ◌<◌, ◌≤◌, ◌+◌, ◌*◌, ◌^◌, Bool, false, Option, Some, None, Result, Ok, Err, List, [], length, vec_len}
 use Rattle.bh_spec.specs.Bounds.{Bounds, IsWithin}
 use Rattle.bh_spec.specs.Messages.{Field, Control, Interim}
 use Rattle.bh_spec.specs.Canonical.{ControlFits, FieldsFit}

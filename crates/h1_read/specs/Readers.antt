@@ -56,12 +56,12 @@ pub record IsInHead (S : Setting) (interims : ℕ) (heads : ReaderView) (body : 
   pub none : HoldsNoEnd heads.seen
   pub more : length heads.seen < heads.limit
   pub few : IsWithin S.limits.interims interims
-  pub open : body.refused ≡ false
+  pub unbroken : body.refused ≡ false
   pub fresh : body.at ≡ start Chunked
 
 -- in the body, of which a trailer section isn't over
 pub record IsInBody (body : BodyView) : Type 0 where
-  pub open : body.refused ≡ false
+  pub unbroken : body.refused ≡ false
   pub going : (lines : List Field) → body.at ≡ over lines → ⊥
 
 abbrev pub IsInPhase : Phase → Setting → ReaderView → BodyView → Type 0
@@ -86,6 +86,11 @@ pub record NeedsAt (S : Setting) (p : Place) (piece : List ℕ) (r : Place) : Ty
   pub passes : IsAlive (RestFrom S) r ⊎ IsSilent (RestFrom S) p piece
   pub before : IsWhole S r ⊎ WrongFrom S p piece why.Ended
 
+-- The message may end there, and a byte more is too much.
+pub record IsOver (S : Setting) (p : Place) : Type 0 where
+  pub whole : IsWhole S p
+  pub extra : (bytes : List ℕ) → (bytes ≡ [] → ⊥) → WrongFrom S p bytes why.Extra
+
 -- A byte of the piece is the first that decides.
 pub record RefusedAt (S : Setting) (p : Place) (piece : List ℕ) (cause : H1Why) : Type 0 where
   pub at : ℕ
@@ -97,13 +102,13 @@ pub record RefusedAt (S : Setting) (p : Place) (piece : List ℕ) (cause : H1Why
   pub not_end : cause ≡ why.Ended → ⊥
 
 -- the item of an event, with what the judge shows
-abbrev pub ShowsAs : JudgeView → Event → Item → Type 0
-ShowsAs v (events.Interim status) item = item ≡ interim_response status v.lines
-ShowsAs v events.Head item = (of : Head) × (item ≡ head of v.lines) × (v.head ≡ Some of)
-ShowsAs v events.Trailers item = item ≡ trailer_section v.lines
+abbrev pub ShowsIn : JudgeView → Event → Item → Type 0
+ShowsIn v (events.Interim status) item = item ≡ interim_response status v.lines
+ShowsIn v events.Head item = (of : Head) × (item ≡ head of v.lines) × (v.head ≡ Some of)
+ShowsIn v events.Trailers item = item ≡ trailer_section v.lines
 
 abbrev pub WholeAt : Setting → Place → List ℕ → ℕ → Event → Place → JudgeView → Type 0
-WholeAt S p piece taken event r v = (item : Item) × TookAt S p piece taken (item ∷ []) r × ShowsAs v event item
+WholeAt S p piece taken event r v = (item : Item) × TookAt S p piece taken (item ∷ []) r × ShowsIn v event item
 
 abbrev pub Steps : Setting → Place → List ℕ → Pushed H1Why → Place → JudgeView → Type 0
 Steps S p piece pushed.Need r v = NeedsAt S p piece r
@@ -124,7 +129,7 @@ StandsBehind (pushed.Refused cause) phase S heads body = Unit {0}
 -- Behind so many informational responses the bytes are a head, however they were cut; or none, for this cause.
 abbrev pub SaysHead : Setting → ℕ → List ℕ → Result Event H1Why → Place → JudgeView → Type 0
 SaysHead S n bytes (Ok event) r v = (item : Item) × ((seen x : List ℕ) → seen ++ x ≡ bytes → Goes S (in_head n seen) x (item ∷ []) r)
-    × IsAlive (RestFrom S) r × ShowsAs v event item
+    × IsAlive (RestFrom S) r × ShowsIn v event item
 SaysHead S n bytes (Err cause) r v = ((interims : List Interim) (rest : List ℕ) → length interims ≡ n
     → OfWholeHead S.limits S.scheme S.to_head interims bytes rest cause) × (cause ≡ why.Ended → ⊥)
 

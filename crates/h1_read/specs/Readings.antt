@@ -1,5 +1,5 @@
 -- The reader of an HTTP/1.1 message as the loop over a port sees it.
-use Rattle.std.specs.Prelude.{ℕ, ◌≡◌, ◌<◌, ◌≤◌, ◌+◌, ◌^◌, ◌⊎◌, Bool, false, Option, Some, List, [], ◌∷◌, ◌++◌, length, take}
+use Rattle.std.specs.Prelude.{ℕ, ◌≡◌, ◌<◌, ◌≤◌, ◌+◌, ◌-◌, ◌^◌, ◌⊎◌, Bool, false, Option, Some, List, [], ◌∷◌, ◌++◌, length, take}
 use Rattle.bh_spec.specs.declared.Kind.{Kind}
 use Rattle.bh_spec.specs.declared.Omitted.{Omitted}
 use Rattle.bh_spec.specs.declared.Omitted.TheVariants.{Nothing}

@@ -1,10 +1,13 @@
 //! A reader of an HTTP/1.1 message, from place to place of it.
-
-
-
-
-
-
+ghost use Rattle.std.specs.Prelude.{◌≡◌, ◌≤◌, false, IfOk, IsTrue, IsFalse, [], length};
+ghost use Rattle.bh_spec.specs.declared.H1Why.TheVariants as why;
+ghost use Rattle.bh_spec.specs.Bounds.{IsWithin};
+ghost use Rattle.h1_spec.specs.BodyStates.{start};
+ghost use Rattle.h1_read.specs.HeadJudges.{JudgeView, view_of};
+ghost use Rattle.h1_read.specs.Places.{Setting, Place, in_head, in_body};
+ghost use Rattle.h1_read.specs.Wrong.{WrongFrom};
+ghost use Rattle.h1_read.specs.Readings.{IsWhole};
+ghost use Rattle.h1_read.specs.Readers.{setting_of, place_of, IsInHead, IsInBody, IsBuiltReader, Stands, IsOver, Steps, StandsBehind, SaysHead, StandsAtHead};
 
 use crate::heads::{HeadJudge, HeadRead};
 use bh_base::NoMemory;
@@ -42,7 +45,12 @@ impl Reader {
         limits: &Limits,
         scheme: Scheme1,
         to_head: bool,
-    ) -> Result<Reader, NoMemory> {
+    ) -> Result<Reader, NoMemory>
+        ensures place { IfOk result (λ r. place_of r ≡ in_head 0 []) }
+        ensures setting { IfOk result (λ r. setting_of r ≡ record { limits = limits.now; scheme = scheme; to_head = to_head }) }
+        ensures built { IfOk result (λ r. IsBuiltReader r) }
+        ensures stands { IfOk result (λ r. Stands r) }
+    {
         let heads = HeadReader::new(alloc, limits.section() as usize)?;
         let judge = HeadJudge::new(alloc, limits, scheme, to_head)?;
         let body = BodyReader::new(alloc, Framing1::Chunked, limits)?;
@@ -55,7 +63,14 @@ impl Reader {
     }
 
     /// Takes bytes of the piece up to the next thing that is whole.
-    pub fn step<'p>(&mut self, piece: &'p [u8]) -> Pushed<'p, H1Why> {
+    pub fn step<'p>(&mut self, piece: &'p [u8]) -> Pushed<'p, H1Why>
+        requires built { IsBuiltReader self.old }
+        requires stands { Stands self.old }
+        ensures steps { Steps (setting_of self.old) (place_of self.old) piece.now result (place_of self.new) (view_of self.new.judge) }
+        ensures stands { StandsBehind result self.new.phase (setting_of self.new) self.new.heads self.new.body }
+        ensures built { IsBuiltReader self.new }
+        ensures setting { setting_of self.new ≡ setting_of self.old }
+    {
         match self.phase {
             Phase::Head { interims } => self.head(interims, piece),
             Phase::Body => self.content(piece),
@@ -64,7 +79,16 @@ impl Reader {
     }
 
     /// In a head.
-    fn head<'p>(&mut self, interims: u64, piece: &'p [u8]) -> Pushed<'p, H1Why> {
+    fn head<'p>(&mut self, interims: u64, piece: &'p [u8]) -> Pushed<'p, H1Why>
+        requires built { IsBuiltReader self.old }
+        requires phase { self.old.phase ≡ Phase.Head interims }
+        requires stands { IsInHead (setting_of self.old) interims self.old.heads self.old.body }
+        ensures steps { Steps (setting_of self.old) (in_head interims self.old.heads.seen) piece.now result (place_of self.new)
+            (view_of self.new.judge) }
+        ensures stands { StandsBehind result self.new.phase (setting_of self.new) self.new.heads self.new.body }
+        ensures built { IsBuiltReader self.new }
+        ensures setting { setting_of self.new ≡ setting_of self.old }
+    {
         match self.heads.push(piece) {
             HeadStep::Need => Pushed::Need,
             HeadStep::HeadLimit => Pushed::Refused(H1Why::HeadLimit),
@@ -76,7 +100,17 @@ impl Reader {
     }
 
     /// Judges the head whose bytes were found.
-    fn whole_head(&mut self, interims: u64) -> Result<Event, H1Why> {
+    fn whole_head(&mut self, interims: u64) -> Result<Event, H1Why>
+        requires built { IsBuiltReader self.old }
+        requires few { IsWithin self.old.judge.limits.interims interims }
+        requires fits { length self.old.heads.seen ≤ self.old.heads.limit }
+        requires open { self.old.body.refused ≡ false }
+        requires fresh { self.old.body.at ≡ start Framing1.Chunked }
+        ensures says { SaysHead (setting_of self.old) interims self.old.heads.seen result (place_of self.new) (view_of self.new.judge) }
+        ensures stands { StandsAtHead result self.new.phase (setting_of self.new) self.new.heads self.new.body }
+        ensures built { IsBuiltReader self.new }
+        ensures setting { setting_of self.new ≡ setting_of self.old }
+    {
         match self.judge.judge(self.heads.bytes(), interims) {
             Ok(HeadRead::Interim { status }) => {
                 self.heads.begin();
@@ -95,7 +129,16 @@ impl Reader {
     }
 
     /// In the body.
-    fn content<'p>(&mut self, piece: &'p [u8]) -> Pushed<'p, H1Why> {
+    fn content<'p>(&mut self, piece: &'p [u8]) -> Pushed<'p, H1Why>
+        requires built { IsBuiltReader self.old }
+        requires phase { self.old.phase ≡ Phase.Body }
+        requires stands { IsInBody self.old.body }
+        ensures steps { Steps (setting_of self.old) (in_body (view_of self.old.judge).named self.old.body.at) piece.now result
+            (place_of self.new) (view_of self.new.judge) }
+        ensures stands { StandsBehind result self.new.phase (setting_of self.new) self.new.heads self.new.body }
+        ensures built { IsBuiltReader self.new }
+        ensures setting { setting_of self.new ≡ setting_of self.old }
+    {
         if self.body.is_whole() {
             return behind(piece);
         }
@@ -115,7 +158,12 @@ impl Reader {
     }
 
     /// May the message end here?
-    pub fn may_end(&self) -> bool {
+    pub fn may_end(&self) -> bool
+        requires built { IsBuiltReader self.now }
+        requires stands { Stands self.now }
+        ensures whole { IsTrue result → IsWhole (setting_of self.now) (place_of self.now) }
+        ensures waits { IsFalse result → WrongFrom (setting_of self.now) (place_of self.now) [] why.Ended }
+    {
         match self.phase {
             Phase::Head { .. } => false,
             Phase::Body => self.body.may_end(),
@@ -125,7 +173,9 @@ impl Reader {
 }
 
 /// Behind a whole message: a byte there is too much.
-fn behind<'p>(piece: &'p [u8]) -> Pushed<'p, H1Why> {
+fn behind<'p>(piece: &'p [u8]) -> Pushed<'p, H1Why>
+    ensures { (S : Setting) (p : Place) (v : JudgeView) → IsOver S p → Steps S p piece.now result p v }
+{
     if piece.is_empty() {
         Pushed::Need
     } else {
