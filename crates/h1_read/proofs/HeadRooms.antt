@@ -1,17 +1,16 @@
 -- There is room for the lines of heads and trailer sections within the limits.
-use Rattle.std.proofs.Common.{◌≡◌, ◌<◌, ◌≤◌, ◌+◌, ◌*◌, ℕ, Option, Some, None, List, [], ◌∷◌, ◌++◌, length, All, ap, arith, subst, sym, refl, ◌∙◌}
+use Rattle.std.proofs.Common.{◌≤◌, ◌+◌, ℕ, List, [], ◌∷◌, ◌++◌, length, All, ap, arith}
 use Rattle.std.specs.Char.{to_ascii_lowercase}
 use Rattle.std.proofs.lemmas.List.{length-append, length-map}
-use Rattle.std.proofs.lemmas.List.Elements.{All-head, All-tail}
-use Rattle.bh_spec.specs.Bounds.{Bounds, IsWithin}
 use Rattle.bh_spec.specs.Messages.{Field}
 use Rattle.bh_spec.specs.Texts.{AreEach}
 use Rattle.bh_model.specs.Lines.{lines_room}
-use Rattle.h1_spec.specs.Grammar.{Line, crlf}
+use Rattle.h1_spec.specs.Grammar.{Line}
 use Rattle.h1_spec.specs.Heads.{IsFieldLine, IsSection, Head, IsHead}
 use Rattle.h1_head.specs.Room.{room_in, count_in}
 use Rattle.h1_rules.specs.Own.{IsNamed}
-use Rattle.h1_rules.proofs.Named.{section_named}
+use Rattle.h1_rules.proofs.Named.{section_named, few_lines}
+use Rattle.h1_rules.proofs.Within.{within_at}
 use Rattle.h1_read.specs.declared.heads.HeadJudge.{HeadJudge}
 use Rattle.h1_read.specs.HeadJudges.{IsSound, AreTrailers}
 
@@ -46,14 +45,6 @@ each_room (f ∷ fields) bytes h =
 
 section_room : (fields : List Field) (bytes : List ℕ) → IsSection fields bytes → lines_room fields + length fields ≤ length bytes
 section_room fields bytes h = omega (arith, each_room fields h.0 h.2, ap length h.4, length-append h.0 h.1)
-
-few_lines : (fields : List Field) → All IsNamed fields → 3 * length fields ≤ lines_room fields
-few_lines [] h = omega arith
-few_lines (f ∷ fields) h = omega (arith, few_lines fields (All-tail IsNamed f fields h), All-head IsNamed f fields h)
-
-within_at : (o : Option ℕ) (limit n : ℕ) → o ≡ Some limit → IsWithin o n → n ≤ limit
-within_at (Some k) limit n e h = let same : k ≡ limit = cc in omega (arith, h, same)
-within_at None limit n e h = absurd (cc)
 
 -- ---- heads
 

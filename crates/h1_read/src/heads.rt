@@ -3,11 +3,12 @@ ghost use Rattle.std.specs.Prelude.{◌≡◌, ◌≤◌, ◌<◌, ◌+◌, ◌�
 ghost use Rattle.bh_spec.specs.Bounds.{IsWithin};
 ghost use Rattle.bh_spec.specs.Canonical.{ControlFits, FieldsFit};
 ghost use Rattle.bh_model.specs.Values.{control_lent};
-ghost use Rattle.h1_spec.specs.Cleaning.{hops as hops_named, clean as cleaned_of, is_empty};
+ghost use Rattle.bh_push.specs.Hands.{control_shown, status_shown};
+ghost use Rattle.h1_spec.specs.Cleaning.{is_empty};
 ghost use Rattle.h1_spec.specs.Heads.{request_line, status_line};
 ghost use Rattle.h1_rules.specs.Own.{IsNamed};
 ghost use Rattle.h1_rules.specs.Targeted.{control_by};
-ghost use Rattle.h1_read.specs.HeadJudges.{control_shown, status_shown, view_of, start_view, IsSound, IsSame, SaysStart, Judges, AreTrailers, IsTrailing, cause_of as cause_said, HasCleaned, HasKept};
+ghost use Rattle.h1_read.specs.HeadJudges.{view_of, start_view, IsSound, IsSame, SaysStart, Judges, AreTrailers, IsTrailing, cause_of as cause_said, HasCleaned, HasKept};
 
 use bh_base::NoMemory;
 use bh_control::Strings;
@@ -111,7 +112,7 @@ impl HeadJudge {
             Some(StartParts::Response { status }) => self.response(status, before),
             Some(StartParts::Request { method, target }) => {
                 // Behind the head of an informational response stands a response's.
-                if before > 0 {
+                if is_later(before) {
                     return Err(H1Why::HeadForm);
                 }
                 self.request(method, target)
@@ -158,10 +159,10 @@ impl HeadJudge {
         ensures same { IsSame (view_of self.old) (view_of self.new) }
         ensures sound { IsSound self.new }
     {
-        if status == 101 {
+        if is_switching(status) {
             return Err(H1Why::Switching);
         }
-        if status < 200 && before >= self.limits.interims() {
+        if is_too_many(status, before, &self.limits) {
             return Err(H1Why::Interims);
         }
         self.clean(false);
@@ -254,6 +255,27 @@ fn says_authority(authority: &[u8]) -> bool
     ensures { result ≡ not (is_empty authority.now) }
 {
     !authority.is_empty()
+}
+
+/// Whether informational responses stand before it.
+fn is_later(before: u64) -> bool
+    ensures { IsTrue result ↔ (0 < before) }
+{
+    before > 0
+}
+
+/// Whether it ends the protocol (RFC 9110, section 15.2.2).
+fn is_switching(status: u16) -> bool
+    ensures { IsTrue result ↔ (status ≡ 101) }
+{
+    status == 101
+}
+
+/// Whether it is an informational response's, and that is one more than the limits allow.
+fn is_too_many(status: u16, before: u64, limits: &Limits) -> bool
+    ensures { IsTrue result ↔ ((status ≤ 199) × (IsWithin limits.now.interims (before + 1) → ⊥)) }
+{
+    status < 200 && before >= limits.interims()
 }
 
 /// The cause of a message whose request's target is refused so.

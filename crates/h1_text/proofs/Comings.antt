@@ -16,7 +16,8 @@ use Rattle.h1_rules.proofs.Cookies.{without_room, one_room}
 use Rattle.h1_judge.specs.Courses.{named_behind, cleaned_items}
 use Rattle.h1_judge.specs.Views as judged
 use Rattle.h1_judge.specs.Views.{JudgedView}
-use Rattle.h1_judge.proofs.Rooms.{room_lines, within_at}
+use Rattle.h1_judge.proofs.Rooms.{room_lines}
+use Rattle.h1_rules.proofs.Within.{within_at}
 use Rattle.h1_text.specs.Writers.{Writing, before_all, IsAtStart, HasRoom, BodyComes, EndComes, MessageComes, takes}
 use Rattle.h1_text.proofs.Room.{request_room}
 
