@@ -56,10 +56,10 @@ in_heads : (seen heads b x more : List ℕ) (many : ℕ) → heads ++ b ≡ x ++
 in_heads seen heads b x more many e none ends =
     elim (cases_lt (length heads) (length x)) [
       | inl less ↦ (
-        let cut = shorter heads b x more e (omega (arith, less)) in
-        let longer : seen ++ x ≡ (seen ++ heads) ++ cut.0 = ap (λ (z : List ℕ). seen ++ z) cut.1 ∙ sym (append_assoc seen heads cut.0) in
-        absurd (none many (subst EndsBlank (sym (ap (take many) longer ∙ take-append-le many (seen ++ heads) cut.0 ends.within)) ends.ends))
-      )
+          let cut = shorter heads b x more e (omega (arith, less)) in
+          let longer : seen ++ x ≡ (seen ++ heads) ++ cut.0 = ap (λ (z : List ℕ). seen ++ z) cut.1 ∙ sym (append_assoc seen heads cut.0) in
+          absurd (none many (subst EndsBlank (sym (ap (take many) longer ∙ take-append-le many (seen ++ heads) cut.0 ends.within)) ends.ends))
+          )
       | inr le ↦ le
     ]
 

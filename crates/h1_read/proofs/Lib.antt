@@ -4,3 +4,5 @@ pub mod HeadSteps
 pub mod HeadEnds
 pub mod Completing
 pub mod BodyPlaces
+pub mod Standings
+pub mod Counting
