@@ -26,6 +26,7 @@ use Rattle.h1_body.specs.Trailers.{IsEnded}
 use Rattle.h1_read.specs.Places.{Setting, Place, in_body, behind_trailers, left_out, BodyRest, RestFrom}
 use Rattle.h1_read.specs.Wrong.{WrongFrom}
 use Rattle.h1_read.specs.Readings.{Goes}
+use Rattle.h1_read.specs.ReadingLaws.{goes_here}
 use Rattle.h1_read.specs.HeadJudges.{JudgeView}
 use Rattle.h1_read.specs.Readers.{NeedsAt, RefusedAt, IsOver}
 use Rattle.h1_read.proofs.Completing.{nothing_fits}
@@ -158,17 +159,6 @@ trailers_goes S named at x lines m fits = record {
 
 -- ---- behind a whole message
 
-pub goes_nowhere : (S : Setting) (p : Place) → Goes S p [] [] p
-goes_nowhere S p = record {
-  residual = record {
-    text = [];
-    same = refl;
-    forth = λ q u more h e. record { thing = q; rest = u; spelled = h; same = refl; joined = refl };
-    back = λ q t h. h;
-  };
-  wrong = λ more c h. h;
-}
-
 pub counted_over : (S : Setting) (named : List (List ℕ)) → IsOver S (in_body named (in_count 0))
 counted_over S named = record {
   whole = (
@@ -191,7 +181,7 @@ some_piece (byte ∷ piece) e f = absurd (cc)
 
 pub over_needs : (S : Setting) (p : Place) → IsOver S p → NeedsAt S p [] p
 over_needs S p h = record {
-  goes = goes_nowhere S p;
+  goes = goes_here S p;
   passes = inl (ending h.whole.0 h.whole.1 ∷ [], [], h.whole.2);
   before = inl h.whole;
 }
@@ -202,7 +192,7 @@ over_refuses S p (byte ∷ rest) some h = record {
   at = 0;
   inside = omega arith;
   state = p;
-  goes = goes_nowhere S p;
+  goes = goes_here S p;
   before = inl h.whole;
   wrong = λ after. h.extra (byte ∷ after) (λ e. absurd (cc));
   not_end = λ e. absurd (cc);

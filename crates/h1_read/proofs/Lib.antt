@@ -1,5 +1,7 @@
-mod HeadRooms
-mod HeadAnswers
+pub mod HeadAnswers
+pub mod HeadRooms
+pub mod AtStart
+pub mod Judging
 pub mod HeadSteps
 pub mod HeadEnds
 pub mod Completing

@@ -1,6 +1,6 @@
 -- A reader of an HTTP/1.1 message in the middle of it: where it stands, and what completes the message from there. What is handed out
 -- are the items of the message that is read, whose sections are cleaned.
-use Rattle.std.specs.Prelude.{ℕ, zero, suc, ◌≡◌, ◌+◌, Bool, true, false, cond, List, [], ◌∷◌, ◌++◌, length}
+use Rattle.std.specs.Prelude.{ℕ, zero, suc, ◌≡◌, ◌+◌, Bool, cond, List, [], ◌∷◌, ◌++◌, length}
 use Rattle.bh_spec.specs.declared.Omitted.{Omitted}
 use Rattle.bh_spec.specs.declared.Omitted.TheVariants.{Nothing, Trailers}
 use Rattle.bh_spec.specs.Bounds.{Bounds, IsWithin}

@@ -2,6 +2,7 @@
 #![tactic(auto)]
 
 mod heads;
+mod laws;
 mod reader;
 mod reading;
 #[cfg(test)]
@@ -10,4 +11,5 @@ mod reading_tests;
 mod tests;
 
 pub use h1_rules::{Framing1, Scheme1};
+pub use laws::{judges_as_from, knows_http1, ready_at_start};
 pub use reading::Http1Reading;
