@@ -51,7 +51,8 @@ impl Http1Reading {
         scheme: Scheme1,
         to_head: bool,
     ) -> Result<Http1Reading, NoMemory>
-        ensures { IfOk result (λ reading. IsAtStart limits.now scheme to_head reading) }
+        ensures start { IfOk result (λ reading. IsAtStart limits.now scheme to_head reading) }
+        ensures ready { IfOk result IsReady }
     {
         let reader = Reader::new(alloc, limits, scheme, to_head)?;
         Ok(Http1Reading {

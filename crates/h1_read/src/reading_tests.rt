@@ -41,13 +41,17 @@ fn show_head(text: &mut Vec<u8>, reading: &Http1Reading) -> Result<(), AllocErro
     Ok(())
 }
 
-/// A letter of the event.
-fn letter(event: &Event) -> &'static [u8] {
+/// A letter of the event, what the head says, and the fields.
+fn show_event(text: &mut Vec<u8>, reading: &Http1Reading, event: &Event) -> Result<(), AllocError> {
     match event {
-        Event::Interim { .. } => b"i",
-        Event::Head => b"h",
-        Event::Trailers => b"t",
+        Event::Interim { .. } => text.extend_from_slice(b"i")?,
+        Event::Head => {
+            text.extend_from_slice(b"h")?;
+            show_head(text, reading)?;
+        }
+        Event::Trailers => text.extend_from_slice(b"t")?,
     }
+    show_fields(text, reading.fields())
 }
 
 /// The word of a cause.
@@ -72,11 +76,7 @@ fn show_some(
             Ok(Some(taken))
         }
         Pushed::Whole { taken, event } => {
-            text.extend_from_slice(letter(&event))?;
-            if matches!(event, Event::Head) {
-                show_head(text, reading)?;
-            }
-            show_fields(text, reading.fields())?;
+            show_event(text, reading, &event)?;
             Ok(Some(taken))
         }
         Pushed::Refused(cause) => {

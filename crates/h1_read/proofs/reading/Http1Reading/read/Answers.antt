@@ -40,10 +40,12 @@ returns-in-Content-clause-pushed c =
     let bytes : List ℕ = c.in-Content.bytes.now in
     let w : View = view_at c.step.new.self (i.taken + c.in-Content.taken) i.kind i.lines c.count_more-self-inside.result i.refused in
     let says = c.in-Content.ensures.steps in
-    subst (λ (u : View). Took rest Moved u piece c.in-Content.taken (map content_byte bytes) w × (0 < length bytes) × (length bytes ≤ c.in-Content.taken)) c.self.view_is
-    (content_on v (subst IsReady (sym c.self.view_is) c.requires.ready) piece front (c.first-front.ensures ∙ ap (λ (n : ℕ). take (min n (length piece)) piece) c.room.ensures)
-    w c.in-Content.taken bytes says.0 c.in-Content.ensures.setting refl (ap (λ (u : View). u.refused) c.self.view_is ∙ c.requires.ready.refused) refl refl c.count_more-self-inside.ensures,
-    says.1, says.2)
+    subst (λ (u : View). Took rest Moved u piece c.in-Content.taken (map content_byte bytes) w × (0 < length bytes) × (length bytes ≤ c.in-Content.taken)) c.self.view_is (
+      content_on v (subst IsReady (sym c.self.view_is) c.requires.ready) piece front (c.first-front.ensures ∙ ap (λ (n : ℕ). take (min n (length piece)) piece) c.room.ensures)
+          w c.in-Content.taken bytes says.0 c.in-Content.ensures.setting refl (ap (λ (u : View). u.refused) c.self.view_is ∙ c.requires.ready.refused) refl refl c.count_more-self-inside.ensures,
+      says.1,
+      says.2,
+    )
 
 pub returns-in-Whole-clause-pushed : goal.returns-in-Whole-clause-pushed
 returns-in-Whole-clause-pushed c =
