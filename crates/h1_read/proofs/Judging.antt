@@ -192,8 +192,7 @@ module _ (L : Bounds) (scheme : Scheme1) (to_head : Bool) (v : View) (limits : A
         let content_are : w.content ≡ length a.message.content = omega (arith, m.content, start.content, content, short) in
         let kind_is : w.kind ≡ kind_of a.message.start =
         m.kind ∙ sym (kind-append i (ending o z ∷ []) v.kind) ∙ ap (λ (q : List Item). kind_behind q v.kind) e.2
-        ∙ message_kind a.message a.omitted a.padding v.kind in
-        (
+        ∙ message_kind a.message a.omitted a.padding v.kind in (
           a.message,
           back,
           (within_here, whole),
