@@ -32,7 +32,7 @@ use Rattle.bh_stream.proofs.Formats.{gives_always, gives_for, keeps_up, keeps_sa
 use Rattle.bh_stream.proofs.Telling.{AreAlike, front_alike, close_alike, port_tells}
 use Rattle.h1_spec.specs.declared.Scheme1.{Scheme1}
 use Rattle.h1_spec.specs.Http1.{IsHttp1}
-use Rattle.h1_spec.specs.Translation.{FromAnswer, read, broken, IsFromAnswer}
+use Rattle.h1_spec.specs.Translation.{FromAnswer, read, broken, OfFirst, IsFromAnswer}
 use Rattle.h1_spec.specs.BodyStates.{start as body_start}
 use Rattle.h1_spec.specs.Framing.{framing}
 use Rattle.h1_spec.specs.Marks.{IsSomeMarked}
@@ -111,9 +111,9 @@ never_ended L limits scheme to_head front h = by_length (h long)
     by_length (inl a) = too_many a.0
     by_length (inr a) = by_first a.2
       where
-        by_first : _ → ⊥
+        by_first : OfFirst L scheme to_head (take a.0 (front ++ long)) why.Ended → ⊥
         by_first (inl b) = b.0 refl
-        by_first (inr b) = absurd cc
+        by_first (inr b) = let two = b.0 in absurd cc
 
 same_message : (m n : Message) → read m ≡ read n → m ≡ n
 same_message m n e = cc

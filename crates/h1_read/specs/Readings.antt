@@ -10,10 +10,10 @@ use Rattle.bh_spec.specs.Bounds.{Bounds}
 use Rattle.bh_spec.specs.Messages.{Field}
 use Rattle.bh_spec.specs.Texts.{Text}
 use Rattle.bh_spec.specs.Residuals.{IsResidual}
-use Rattle.bh_spec.specs.Items.{Item, interim_response, head, trailer_section, ending, Head}
+use Rattle.bh_spec.specs.Items.{Item, ending, Head}
 use Rattle.bh_stream.specs.Decoding.{content_items}
 use Rattle.bh_stream.specs.declared.traits.Event.{Event}
-use Rattle.bh_stream.specs.declared.traits.Event.TheVariants as events
+use Rattle.bh_reading.specs.Handing.{ShowsAs}
 use Rattle.bh_reading.specs.Readings.{within_limit, lines_in, kind_behind, count, IsInput}
 use Rattle.h1_spec.specs.declared.Scheme1.{Scheme1}
 use Rattle.h1_read.specs.Places.{Setting, Place, in_head, RestFrom}
@@ -70,9 +70,7 @@ pub record IsReady (v : View) : Type 0 where
 
 -- the item of an event, as the reader shows it
 abbrev pub shows : View → Event → Item → Type 0
-shows v (events.Interim status) item = (fields : List Field) × (item ≡ interim_response status fields) × (v.fields ≡ Some fields)
-shows v events.Head item = (of : Head) × (fields : List Field) × (item ≡ head of fields) × (v.head ≡ Some of) × (v.fields ≡ Some fields)
-shows v events.Trailers item = (fields : List Field) × (item ≡ trailer_section fields) × (v.fields ≡ Some fields)
+shows v event item = ShowsAs v.head v.fields event item
 
 -- ---- refusals
 

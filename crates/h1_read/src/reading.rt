@@ -13,6 +13,7 @@ ghost use Rattle.h1_read.specs.Readers.{ShowsIn};
 use crate::reader::Reader;
 use bh_base::NoMemory;
 use bh_model::{ControlView, Fields, H1Why, Kind, Limits, Omitted, Summary};
+use bh_reading::Hands;
 use bh_stream::{Decode, Event, Pushed};
 use h1_rules::Scheme1;
 use std::alloc::Global;
@@ -218,4 +219,24 @@ impl Decode for Http1Reading {
     }
 
     ghost laws = { http1_reading_laws };
+}
+
+impl Hands for Http1Reading {
+    ghost head = { λ v. v.head };
+
+    ghost lines = { λ v. v.fields };
+
+    fn control(&self) -> Option<ControlView<'_>> {
+        self.control()
+    }
+
+    fn status(&self) -> Option<u16> {
+        self.status()
+    }
+
+    fn fields(&self) -> &Fields {
+        self.fields()
+    }
+
+    ghost shows_are = { λ v event item shown. shown };
 }
