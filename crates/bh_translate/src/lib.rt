@@ -1,8 +1,12 @@
 //! The two translators: messages of Binary HTTP to HTTP/1.1, and back.
 #![tactic(auto)]
 
+mod from;
+#[cfg(test)]
+mod from_tests;
 mod into;
 #[cfg(test)]
 mod tests;
 
+pub use from::{FromEnd, from_http1};
 pub use into::{IntoEnd, to_http1};

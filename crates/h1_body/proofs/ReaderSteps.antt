@@ -56,6 +56,7 @@ content_refused section v p piece cause e h = subst (λ (z : At). IsRefusedFrom 
   none = λ L l. h.none L;
   before = λ L l. h.before L;
   decided = λ L l. h.decided L;
+  not_end = h.not_end;
 })
 
 -- ---- the trailer section, behind so many bytes of the piece
@@ -89,6 +90,7 @@ behind_refused section v p q piece taken cause e h t = subst (λ (z : At). IsRef
       subst (λ (z : List ℕ). OfRest L nothing_behind (at_of p) z cause)
       (sym (ap (λ (z : List ℕ). z ++ after) shape ∙ append_assoc (take taken piece) (take (t.at + 1) (drop taken piece)) after))
       ((first L).causes (take (t.at + 1) (drop taken piece) ++ after) cause (t.decided L l after));
+  not_end = t.not_end;
 })
   where
     first : (L : Bounds) → Moves L (at_of p) (take taken piece) [] (in_trailers [])

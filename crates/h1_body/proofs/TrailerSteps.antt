@@ -13,7 +13,7 @@ use Rattle.h1_spec.specs.Heads.{HoldsNoEnd}
 use Rattle.h1_head.specs.Ends.{ReaderView, IsOpen, IsWhole, IsPast}
 use Rattle.h1_spec.specs.BodyStates.{in_trailers, over, OfRest, nothing_behind, Moves, IsRefusedFrom}
 use Rattle.h1_body.specs.Trailers.{IsReady, IsEnded}
-use Rattle.h1_spec.proofs.TrailerEnds.{none_front, none_before, trailers_on, trailers_unended, trailers_past, trailers_wrong, trailers_over}
+use Rattle.h1_spec.proofs.TrailerEnds.{ends_later, none_front, none_before, trailers_on, trailers_unended, trailers_past, trailers_wrong, trailers_over}
 
 -- the bytes that were seen, the piece among them
 seen_on : (section : ℕ) (seen piece : List ℕ) (head : ReaderView) (spans : ℕ) (fields : FieldsView) → IsReady section seen head spans fields → head.seen ++ piece ≡ crlf ++ (seen ++ piece)
@@ -75,6 +75,7 @@ limit_says section seen piece head after spans fields r step = record {
       subst (λ (z : List ℕ). OfTrailers L nothing_behind z why.TrailerLimit) (append_assoc seen (take (at + 1) piece) more)
       (trailers_past L section (seen ++ take (at + 1) piece) more e full
       (subst HoldsNoEnd (step.seen ∙ ap (λ (n : ℕ). take n (head.seen ++ piece)) whole ∙ front ∙ sym (take_all (section + 2) (crlf ++ (seen ++ take (at + 1) piece)) exact)) step.none));
+  not_end = λ f. absurd (cc);
 }
   where
     long : length head.seen ≡ 2 + length seen
@@ -109,17 +110,11 @@ fits : (section taken : ℕ) (seen piece : List ℕ) (head after : ReaderView) (
 fits section taken seen piece head after spans fields r step =
     omega (arith, step.fits, r.limit, ap (length {A = ℕ}) r.seen_is, length-append seen (take taken piece), length-take-le taken piece step.within)
 
--- the end isn't in what was seen before
-some_taken : (seen piece : List ℕ) (n : ℕ) → HoldsNoEnd seen → EndsAt (seen ++ piece) (length seen + n) → 0 < n
-some_taken seen piece zero none ends =
-    absurd (none (length seen) (subst EndsBlank (ap (λ (n : ℕ). take n (seen ++ piece)) (omega arith) ∙ take-append-le (length seen) seen piece (omega arith)) ends.ends))
-some_taken seen piece (suc n) none ends = omega arith
-
 -- the bytes before the last are too few
 last_missing : (section taken : ℕ) (seen piece : List ℕ) (head after : ReaderView) (spans : ℕ) (fields : FieldsView) → IsReady section seen head spans fields → IsWhole head piece taken after
     → (L : Bounds) → L.section ≡ Some section → OfRest L nothing_behind (in_trailers seen) (take (taken - 1) piece) why.Ended
 last_missing section taken seen piece head after spans fields r step =
-    let some = some_taken head.seen piece taken r.none step.ends in
+    let some = ends_later head.seen piece taken r.none step.ends in
     short_on section seen piece head spans fields (taken - 1) r
     (none_before (head.seen ++ piece) (length head.seen + taken) (length head.seen + (taken - 1)) step.ends (omega (arith, some))) (omega (arith, some, step.fits, r.limit))
 
@@ -129,13 +124,14 @@ wrong_says section taken seen piece head after spans fields r step wrong = recor
   at = taken - 1;
   behind = in_trailers (seen ++ take (taken - 1) piece);
   none = λ L e. trailers_on L seen (take (taken - 1) piece);
-  inside = omega (arith, some_taken head.seen piece taken r.none step.ends, step.within);
+  inside = omega (arith, ends_later head.seen piece taken r.none step.ends, step.within);
   before = last_missing section taken seen piece head after spans fields r step;
   decided = λ L e more.
-      subst (λ (n : ℕ). OfTrailers L nothing_behind (seen ++ (take n piece ++ more)) why.TrailerForm) (omega (arith, some_taken head.seen piece taken r.none step.ends))
+      subst (λ (n : ℕ). OfTrailers L nothing_behind (seen ++ (take n piece ++ more)) why.TrailerForm) (omega (arith, ends_later head.seen piece taken r.none step.ends))
       (subst (λ (z : List ℕ). OfTrailers L nothing_behind z why.TrailerForm) (append_assoc seen (take taken piece) more)
       (trailers_wrong L section x rest more e (subst (λ (n : ℕ). EndsAt (crlf ++ (x ++ rest)) n) long (subst (λ (z : List ℕ). EndsAt z (length head.seen + taken)) bytes step.ends))
       (fits section taken seen piece head after spans fields r step) wrong));
+  not_end = λ f. absurd (cc);
 }
   where
     x : List ℕ
@@ -161,7 +157,7 @@ whole_says section taken seen piece head after spans fields lines r step h L e =
 pub whole_ends : (section taken : ℕ) (seen piece : List ℕ) (head after : ReaderView) (spans : ℕ) (fields : FieldsView) (lines : List Field) → IsReady section seen head spans fields → IsWhole head piece taken after
     → IsSection lines (seen ++ take taken piece) → IsEnded section (in_trailers seen) piece taken lines
 whole_ends section taken seen piece head after spans fields lines r step h = record {
-  some = some_taken head.seen piece taken r.none step.ends;
+  some = ends_later head.seen piece taken r.none step.ends;
   behind = in_trailers (seen ++ take (taken - 1) piece);
   none = λ L e. trailers_on L seen (take (taken - 1) piece);
   before = last_missing section taken seen piece head after spans fields r step;

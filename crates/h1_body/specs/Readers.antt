@@ -49,6 +49,13 @@ SaysBody section v piece (steps.Whole taken) w = (taken ≤ length piece) × ((l
     × ((L : Bounds) → L.section ≡ Some section → Moves L v (take taken piece) [] w) × IsEnded section v piece taken (trailers_of w)
 SaysBody section v piece (steps.Refused cause) w = IsRefusedFrom section v piece cause
 
+-- Where no more can be said of the piece, no trailer section is over.
+abbrev pub IsGoing : BodyStep → At → Type 0
+IsGoing steps.Need w = (lines : List Field) → w ≡ over lines → ⊥
+IsGoing (steps.Content taken bytes) w = Unit {0}
+IsGoing (steps.Whole taken) w = Unit {0}
+IsGoing (steps.Refused cause) w = Unit {0}
+
 -- and what is known then
 abbrev pub KnownBody : BodyStep → Phase → Bool → ℕ → List ℕ → ReaderView → ℕ → FieldsView → Type 0
 KnownBody steps.Need phase ended section seen head spans fields = IsOpenReader phase ended section seen head spans fields

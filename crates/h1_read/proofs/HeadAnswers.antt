@@ -1,6 +1,5 @@
 -- What the answers for a start line and fields say of the bytes of a head.
-use Rattle.std.proofs.Common.{◌≡◌, ◌<◌, ◌≤◌, ◌+◌, ◌⊎◌, ◌↔◌, inl, inr, false, ℕ, Bool, Option, Some, None, Result, Ok, Err, List, [], ◌∷◌, codes, length, refl, sym, ◌∙◌, ap, subst, arith}
-use Rattle.std.proofs.lemmas.Bool.{cases_lt}
+use Rattle.std.proofs.Common.{◌≡◌, ◌<◌, ◌≤◌, ◌+◌, ◌↔◌, inl, inr, false, ℕ, zero, suc, Bool, Some, Result, Ok, Err, List, [], ◌∷◌, length, refl, sym, ◌∙◌, ap, subst, arith}
 use Rattle.bh_spec.specs.Bounds.{Bounds, IsWithin}
 use Rattle.bh_spec.specs.Messages.{Field, Control, Interim, request}
 use Rattle.bh_spec.specs.Canonical.{ControlFits, FieldsFit}
@@ -13,11 +12,11 @@ use Rattle.h1_spec.specs.Grammar.{Line}
 use Rattle.h1_spec.specs.Heads.{StartLine, request_line, status_line, Head, IsStartLine, IsHead}
 use Rattle.h1_spec.specs.Http1.{IsHeadWithin, IsStartOf, start_of}
 use Rattle.h1_spec.specs.Cleaning.{hops, clean, says_host}
-use Rattle.h1_spec.specs.Framing.{IsCoded, IsCounted, framing}
+use Rattle.h1_spec.specs.Framing.{IsCounted, framing}
 use Rattle.h1_spec.specs.Causes.{Causes, ◌when◌else◌, nothing}
 use Rattle.h1_spec.specs.BodyCauses.{OfBody}
 use Rattle.h1_spec.specs.Targets.{IsTargetOf}
-use Rattle.h1_spec.specs.Translation.{IsNextStart, OfEnd, OfFraming, OfRequest, OfStart}
+use Rattle.h1_spec.specs.Translation.{IsNextStart, OfEnd, OfFraming, OfRequest}
 use Rattle.h1_spec.proofs.HeadTexts.{one_head}
 use Rattle.h1_head.specs.declared.start_line.StartParts.{StartParts}
 use Rattle.h1_head.specs.Parsed.{line_lent, FillsHead}
@@ -29,7 +28,7 @@ use Rattle.h1_read.specs.declared.heads.HeadRead.{HeadRead}
 use Rattle.h1_read.specs.declared.heads.HeadRead.TheVariants.{Interim as InterimRead, Final}
 use Rattle.bh_model.specs.Lines.{FieldsView}
 use Rattle.h1_read.specs.declared.heads.HeadJudge.{HeadJudge}
-use Rattle.h1_read.specs.HeadJudges.{JudgeView, HasCleaned, SaysInterim, SaysFinal, SaysStart, IsInterim, IsFinal, IsWrong, Judges, cause_of}
+use Rattle.h1_read.specs.HeadJudges.{JudgeView, HasCleaned, SaysFinal, SaysWrong, SaysStart, IsWrong, Judges, cause_of}
 
 -- ---- the bytes
 
@@ -50,6 +49,10 @@ status_said : (scheme : Scheme1) (head : Head) (of : Said) → IsStartOf scheme 
     → (status : ℕ) × (of ≡ of_response status)
 status_said scheme head (of_request control) start h = let own = start.1 in let other = h.1 in absurd (cc)
 status_said scheme head (of_response status) start h = (status, refl)
+
+pub none_before : (n : ℕ) → (0 < n → ⊥) → 0 ≡ n
+none_before zero h = refl
+none_before (suc n) h = absurd (h (omega arith))
 
 -- the answer for a start line and fields is that for the bytes that they stand in
 pub judged : (v w : JudgeView) (head : Head) (bytes : List ℕ) (before : ℕ) (result : Result HeadRead H1Why) → IsHeadWithin v.limits head bytes
@@ -76,8 +79,9 @@ judged v w head bytes before (Ok (Final body)) text later says = record {
 judged v w head bytes before (Err cause) text later says = record {
   cause_is = λ interims rest e.
       let next = is_next interims head.start (λ some. later (subst (λ (n : ℕ). 0 < n) e some)) in
-      inr (λ none. none head text.1 next, (head, text.1, next, says.1 interims rest e));
-  head_is = says.0;
+      inr (λ none. none head text.1 next, (head, text.1, next, says.cause_is interims rest e));
+  not_end = says.not_end;
+  head_is = says.head_is;
 }
 
 -- the head that was parsed, by its start
@@ -88,7 +92,11 @@ parsed_as bytes parts start fields e h = subst (λ (p : StartParts). IsHead (rec
 -- the bytes are no head; or they are a request's, behind an informational response
 pub no_head : (v w : JudgeView) (bytes : List ℕ) (before : ℕ) → ((head : Head) → IsHead head bytes → ⊥) → w.head ≡ v.head
     → IsWrong v bytes before why.HeadForm w
-no_head v w bytes before none same = record { cause_is = λ interims rest e. inl (λ head text next. none head text, refl); head_is = same }
+no_head v w bytes before none same = record {
+  cause_is = λ interims rest e. inl (λ head text next. none head text, refl);
+  not_end = λ e. absurd (cc);
+  head_is = same;
+}
 
 pub late_request : (v w : JudgeView) (head : Head) (bytes method target : List ℕ) (before : ℕ) → IsHead head bytes
     → head.start ≡ request_line method target → 0 < before → w.head ≡ v.head → IsWrong v bytes before why.HeadForm w
@@ -99,6 +107,7 @@ late_request v w head bytes method target before text start some same = record {
         not_next interims other.start method target (subst (λ (n : ℕ). 0 < n) (sym e) some) (ap (λ (h : Head). h.start) is ∙ start) next,
     refl,
   );
+  not_end = λ e. absurd (cc);
   head_is = same;
 }
 
@@ -114,20 +123,28 @@ of_framing L to_head head rest cause (inl h) = inl h
 of_framing L to_head head rest cause (inr h) =
     inr (h.0, length_first (OfBody L (framing to_head head) (OfEnd L (hops head.fields)) rest) (IsCounted head.fields → ⊥) cause h.1)
 
+unframed_not_end : (to_head : Bool) (head : Head) (cause : H1Why) → IsFramingAnswer to_head head (Err cause) → cause ≡ why.Ended → ⊥
+unframed_not_end to_head head cause (inl h) e = let is = h.1 in absurd (cc)
+unframed_not_end to_head head cause (inr h) e = of_length h.1
+  where
+    of_length : (why.Length when (IsCounted head.fields → ⊥) else nothing) cause → ⊥
+    of_length (inl g) = let is = g.1 in absurd (cc)
+    of_length (inr g) = g.1
+
 -- ---- between cleaning and the answer
 
 module _ (j k : HeadJudge) (drops_host : Bool) (h : HasCleaned j drops_host k) where
   pub lines_fit : FieldsFit k.limits k.cleaned.lines ↔ FieldsFit j.limits (clean (hops j.raw.lines) drops_host j.raw.lines)
   lines_fit = (
-      λ f. subst (FieldsFit j.limits) h.lines (subst (λ (L : Bounds). FieldsFit L k.cleaned.lines) h.same.limits f),
-      λ f. subst (λ (L : Bounds). FieldsFit L k.cleaned.lines) (sym h.same.limits) (subst (FieldsFit j.limits) (sym h.lines) f),
-    )
+    λ f. subst (FieldsFit j.limits) h.lines (subst (λ (L : Bounds). FieldsFit L k.cleaned.lines) h.same.limits f),
+    λ f. subst (λ (L : Bounds). FieldsFit L k.cleaned.lines) (sym h.same.limits) (subst (FieldsFit j.limits) (sym h.lines) f),
+  )
 
   pub control_fit : (control : Control) → ControlFits k.limits control ↔ ControlFits j.limits control
   control_fit control = (
-      subst (λ (L : Bounds). ControlFits L control) h.same.limits,
-      subst (λ (L : Bounds). ControlFits L control) (sym h.same.limits),
-    )
+    subst (λ (L : Bounds). ControlFits L control) h.same.limits,
+    subst (λ (L : Bounds). ControlFits L control) (sym h.same.limits),
+  )
 
   pub framed : (start : StartLine) (result : Result Framing1 H1Why)
       → IsFramingAnswer k.to_head (record { start = start; fields = k.raw.lines }) result
@@ -143,21 +160,32 @@ module _ (v w : JudgeView) (method target : List ℕ) (fields : List Field) wher
   head = record { start = request_line method target; fields = fields }
 
   pub refused_target : (t : TargetWhy) → IsWhy v.scheme method target fields t → w.head ≡ v.head → SaysStart v head 0 (Err (cause_of t)) w
-  refused_target refused.Connect h same = (same, λ interims rest e. inl (h, refl))
-  refused_target refused.Target h same = (same, λ interims rest e. inr (h.0, inl (h.1, refl)))
-  refused_target refused.Host h same = (same, λ interims rest e. inr (h.0, inr (λ none. none h.1.0 h.1.1, (h.1.0, h.1.1, inl (h.1.2, refl)))))
+  refused_target refused.Connect h same = record { cause_is = λ interims rest e. inl (h, refl); not_end = λ e. absurd (cc); head_is = same }
+  refused_target refused.Target h same = record {
+    cause_is = λ interims rest e. inr (h.0, inl (h.1, refl));
+    not_end = λ e. absurd (cc);
+    head_is = same;
+  }
+  refused_target refused.Host h same = record {
+    cause_is = λ interims rest e. inr (h.0, inr (λ none. none h.1.0 h.1.1, (h.1.0, h.1.1, inl (h.1.2, refl))));
+    not_end = λ e. absurd (cc);
+    head_is = same;
+  }
   refused_target refused.NoMemory h same = absurd h
 
   wrong : (control : Control) (cause : H1Why) → SaysControl v.scheme method target fields control → w.head ≡ v.head
-      → ((rest : List ℕ) → OfRequest v.limits v.to_head control head rest cause) → SaysStart v head 0 (Err cause) w
-  wrong control cause says same h =
-      (same, λ interims rest e. inr (says.no_connect, inr (λ none. none control says.form, (control, says.form, h rest))))
+      → ((rest : List ℕ) → OfRequest v.limits v.to_head control head rest cause) → (cause ≡ why.Ended → ⊥) → SaysWrong v head 0 cause w
+  wrong control cause says same h other = record {
+    cause_is = λ interims rest e. inr (says.no_connect, inr (λ none. none control says.form, (control, says.form, h rest)));
+    not_end = other;
+    head_is = same;
+  }
 
   -- what is said doesn't fit
   pub unfit_request : (control : Control) → SaysControl v.scheme method target fields control → w.head ≡ v.head
       → (ControlFits v.limits control × FieldsFit v.limits (clean (hops fields) (says_host (request control)) fields) → ⊥)
       → SaysStart v head 0 (Err why.HeadLimit) w
-  unfit_request control says same none = wrong control why.HeadLimit says same (λ rest. inr (λ h. h says.host, inl (none, refl)))
+  unfit_request control says same none = wrong control why.HeadLimit says same (λ rest. inr (λ h. h says.host, inl (none, refl))) (λ e. absurd (cc))
 
   -- the body isn't said
   pub unframed_request : (control : Control) (cause : H1Why) → SaysControl v.scheme method target fields control → w.head ≡ v.head
@@ -165,6 +193,7 @@ module _ (v w : JudgeView) (method target : List ℕ) (fields : List Field) wher
       → IsFramingAnswer v.to_head head (Err cause) → SaysStart v head 0 (Err cause) w
   unframed_request control cause says same fits lines h = wrong control cause says same
       (λ rest. inr (λ g. g says.host, inr (λ none. none (fits, lines), of_framing v.limits v.to_head head rest cause h)))
+      (unframed_not_end v.to_head head cause h)
 
   same_control : (control other : Control) → of_request control ≡ of_request other → control ≡ other
   same_control control other e = cc
@@ -211,13 +240,14 @@ module _ (v w : JudgeView) (status : ℕ) (fields : List Field) (before : ℕ) w
   pub unframed_response : (cause : H1Why) → (status ≡ 101 → ⊥) → (IsTooMany → ⊥) → w.head ≡ v.head
       → FieldsFit v.limits (clean (hops fields) false fields) → 200 ≤ status → IsFramingAnswer v.to_head response_head (Err cause)
       → SaysStart v response_head before (Err cause) w
-  unframed_response cause stays few same fits final h = (
-    same,
-    λ interims rest e. inr (
+  unframed_response cause stays few same fits final h = record {
+    cause_is = λ interims rest e. inr (
       stays,
       inr (λ g. few ((too_many interims e).0 g), inr (λ none. none fits, (final, of_framing v.limits v.to_head response_head rest cause h))),
-    ),
-  )
+    );
+    not_end = unframed_not_end v.to_head response_head cause h;
+    head_is = same;
+  }
 
   pub final_response : (body : Framing1) → 200 ≤ status → w.named ≡ hops fields → w.lines ≡ clean (hops fields) false fields
       → FieldsFit v.limits (clean (hops fields) false fields) → IsFramingAnswer v.to_head response_head (Ok body) → w.head ≡ Some (of_response status)

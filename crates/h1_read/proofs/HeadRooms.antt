@@ -1,21 +1,17 @@
 -- There is room for the lines of heads and trailer sections within the limits.
-use Rattle.std.proofs.Common.{◌≡◌, ◌<◌, ◌≤◌, ◌+◌, ◌*◌, ◌^◌, ℕ, vec_len, Option, Some, None, List, [], ◌∷◌, ◌++◌, length, All, ap, arith, subst, sym, refl, ◌∙◌}
+use Rattle.std.proofs.Common.{◌≤◌, ◌+◌, ℕ, List, [], ◌∷◌, ◌++◌, length, All, ap, arith}
 use Rattle.std.specs.Char.{to_ascii_lowercase}
 use Rattle.std.proofs.lemmas.List.{length-append, length-map}
-use Rattle.std.proofs.lemmas.List.Elements.{All-head, All-tail}
-use Rattle.bh_spec.specs.Bounds.{Bounds, IsWithin}
-use Rattle.bh_spec.specs.Messages.{Field, Control}
-use Rattle.bh_spec.specs.Canonical.{ControlFits}
+use Rattle.bh_spec.specs.Messages.{Field}
 use Rattle.bh_spec.specs.Texts.{AreEach}
 use Rattle.bh_model.specs.Lines.{lines_room}
-use Rattle.h1_spec.specs.Grammar.{Line, crlf}
+use Rattle.h1_spec.specs.Grammar.{Line}
 use Rattle.h1_spec.specs.Heads.{IsFieldLine, IsSection, Head, IsHead}
 use Rattle.h1_head.specs.Room.{room_in, count_in}
 use Rattle.h1_rules.specs.Own.{IsNamed}
 use Rattle.h1_rules.proofs.Named.{section_named, few_lines}
 use Rattle.h1_rules.proofs.Within.{within_at}
 use Rattle.h1_read.specs.declared.heads.HeadJudge.{HeadJudge}
-use Rattle.bh_control.specs.Stored.{AreWithin, HasRoom as HasStringRoom}
 use Rattle.h1_read.specs.HeadJudges.{IsSound, AreTrailers}
 
 -- a line has a colon and its end beside its name and value

@@ -11,7 +11,7 @@ use Rattle.bh_control.specs.Stored.{control_in, HasRoom as HasStringRoom}
 use Rattle.bh_control.specs.declared.strings.Strings.{Strings}
 use Rattle.h1_spec.specs.declared.Framing1.{Framing1}
 use Rattle.h1_spec.specs.declared.Scheme1.{Scheme1}
-use Rattle.h1_spec.specs.Heads.{request_line, status_line, Head}
+use Rattle.h1_spec.specs.Heads.{status_line, Head}
 use Rattle.h1_spec.specs.Http1.{IsHeadWithin, IsInterimHead, IsStartOf, start_of}
 use Rattle.h1_spec.specs.Bodies.{IsTrailerSection}
 use Rattle.h1_spec.specs.Cleaning.{hops, clean, clean_trailers, says_host}
@@ -123,11 +123,16 @@ pub record SaysFinal (v : JudgeView) (head : Head) (body : Framing1) (w : JudgeV
   pub body_is : body ≡ framing v.to_head head
   pub head_is : w.head ≡ Some of
 
+pub record SaysWrong (v : JudgeView) (head : Head) (before : ℕ) (cause : H1Why) (w : JudgeView) : Type 0 where
+  pub cause_is : (interims : List Interim) (rest : List ℕ) → length interims ≡ before
+      → OfStart v.limits v.scheme v.to_head interims head rest head.start cause
+  pub not_end : cause ≡ why.Ended → ⊥
+  pub head_is : w.head ≡ v.head
+
 abbrev pub SaysStart : JudgeView → Head → ℕ → Result HeadRead H1Why → JudgeView → Type 0
 SaysStart v head before (Ok (InterimRead status)) w = SaysInterim v head before status w
 SaysStart v head before (Ok (Final body)) w = SaysFinal v head body w
-SaysStart v head before (Err cause) w = (w.head ≡ v.head) × ((interims : List Interim) (rest : List ℕ) → length interims ≡ before
-    → OfStart v.limits v.scheme v.to_head interims head rest head.start cause)
+SaysStart v head before (Err cause) w = SaysWrong v head before cause w
 
 -- The bytes are the head of an informational response, whose cleaned lines are shown.
 pub record IsInterim (v : JudgeView) (bytes : List ℕ) (before status : ℕ) (w : JudgeView) : Type 0 where
@@ -146,6 +151,7 @@ pub record IsFinal (v : JudgeView) (bytes : List ℕ) (before : ℕ) (body : Fra
 pub record IsWrong (v : JudgeView) (bytes : List ℕ) (before : ℕ) (cause : H1Why) (w : JudgeView) : Type 0 where
   pub cause_is : (interims : List Interim) (rest : List ℕ) → length interims ≡ before
       → OfWholeHead v.limits v.scheme v.to_head interims bytes rest cause
+  pub not_end : cause ≡ why.Ended → ⊥
   pub head_is : w.head ≡ v.head
 
 abbrev pub Judges : JudgeView → List ℕ → ℕ → Result HeadRead H1Why → JudgeView → Type 0

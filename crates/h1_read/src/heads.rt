@@ -112,7 +112,7 @@ impl HeadJudge {
             Some(StartParts::Response { status }) => self.response(status, before),
             Some(StartParts::Request { method, target }) => {
                 // Behind the head of an informational response stands a response's.
-                if before > 0 {
+                if is_later(before) {
                     return Err(H1Why::HeadForm);
                 }
                 self.request(method, target)
@@ -159,7 +159,7 @@ impl HeadJudge {
         ensures same { IsSame (view_of self.old) (view_of self.new) }
         ensures sound { IsSound self.new }
     {
-        if status == 101 {
+        if is_switching(status) {
             return Err(H1Why::Switching);
         }
         if is_too_many(status, before, &self.limits) {
@@ -255,6 +255,20 @@ fn says_authority(authority: &[u8]) -> bool
     ensures { result ≡ not (is_empty authority.now) }
 {
     !authority.is_empty()
+}
+
+/// Whether informational responses stand before it.
+fn is_later(before: u64) -> bool
+    ensures { IsTrue result ↔ (0 < before) }
+{
+    before > 0
+}
+
+/// Whether it ends the protocol (RFC 9110, section 15.2.2).
+fn is_switching(status: u16) -> bool
+    ensures { IsTrue result ↔ (status ≡ 101) }
+{
+    status == 101
 }
 
 /// Whether it is an informational response's, and that is one more than the limits allow.

@@ -1,5 +1,5 @@
 -- The trailer section: behind the line end of the last chunk line it ends as a head does, with the first empty line.
-use Rattle.std.proofs.Common.{◌≡◌, ◌⊎◌, ◌<◌, ◌≤◌, ◌+◌, arith, ℕ, suc, List, [], ◌∷◌, ◌++◌, length, take, drop, Option, Some, refl, sym, ap, subst, ◌∙◌, append_assoc, append-nil, inl, inr}
+use Rattle.std.proofs.Common.{◌≡◌, ◌⊎◌, ◌<◌, ◌≤◌, ◌+◌, arith, ℕ, zero, suc, List, [], ◌∷◌, ◌++◌, length, take, drop, Option, Some, refl, sym, ap, subst, ◌∙◌, append_assoc, append-nil, inl, inr}
 use Rattle.std.proofs.lemmas.Bool.{cases_order, cases_lt}
 use Rattle.std.proofs.lemmas.List.{length-append, length-take, take_all, take-take, take-append-le, take-append-drop}
 use Rattle.std.proofs.Math.Seq.{take-append_seam}
@@ -89,6 +89,12 @@ ends_longer y r s h = record {
   ends = subst EndsBlank (take-append_seam y r ∙ sym (take-append_seam y s)) h.ends;
   first = λ fewer less e. h.first fewer less (subst EndsBlank (take-append-le fewer y s (omega (arith, less)) ∙ sym (take-append-le fewer y r (omega (arith, less)))) e);
 }
+
+-- an end that wasn't there before stands in what follows
+pub ends_later : (seen piece : List ℕ) (n : ℕ) → HoldsNoEnd seen → EndsAt (seen ++ piece) (length seen + n) → 0 < n
+ends_later seen piece zero none ends =
+    absurd (none (length seen) (subst EndsBlank (ap (λ (n : ℕ). take n (seen ++ piece)) (omega arith) ∙ take-append-le (length seen) seen piece (omega arith)) ends.ends))
+ends_later seen piece (suc n) none ends = omega arith
 
 -- what holds no end holds none in its front
 pub none_front : (n : ℕ) (z : List ℕ) → HoldsNoEnd z → HoldsNoEnd (take n z)

@@ -274,3 +274,4 @@ pub record IsRefusedFrom (section : ℕ) (v : At) (piece : List ℕ) (cause : H1
   pub none : (L : Bounds) → L.section ≡ Some section → Moves L v (take at piece) [] behind
   pub before : (L : Bounds) → L.section ≡ Some section → OfRest L nothing_behind v (take at piece) why.Ended
   pub decided : (L : Bounds) → L.section ≡ Some section → (after : List ℕ) → OfRest L nothing_behind v (take (at + 1) piece ++ after) cause
+  pub not_end : cause ≡ why.Ended → ⊥

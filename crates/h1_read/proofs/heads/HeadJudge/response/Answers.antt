@@ -19,7 +19,8 @@ returns-in-Err-clause-says c =
     let j = c.args.self.now in
     let k = c.clean.new.self in
     let h = c.clean.ensures.cleaned in
-    unframed_response (view_of j) (view_of k) c.args.status j.raw.lines c.args.before c.in-Err.cause c.if-status-eq101.false
+    unframed_response (view_of j) (view_of k) c.args.status j.raw.lines c.args.before c.in-Err.cause
+    (λ e. false≢true (sym c.if-is_switching.false ∙ c.is_switching.ensures.1 e))
     (λ many. false≢true (sym c.if-is_too_many.false ∙ c.is_too_many.ensures.1 many)) h.head
     ((lines_fit j k false h).0 (c.fits.ensures.0 c.if-not-fits.false)) c.if-status-lt200.false
     (framed j k false h (status_line c.args.status) (Err c.in-Err.cause) (c.in-Err.ensures (status_line c.args.status) refl))
