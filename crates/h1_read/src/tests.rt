@@ -1,14 +1,12 @@
 //! What is said of heads, and what is shown behind them.
-ghost use Rattle.std.specs.Prelude.{◌≡◌, ◌≤◌, Some, IfOk, length};
+ghost use Rattle.std.specs.Prelude.{◌≡◌, Some, length};
 ghost use Rattle.bh_spec.specs.Bounds.{IsWithin};
 ghost use Rattle.h1_read.specs.HeadJudges.{IsSound};
 
 use crate::heads::{HeadJudge, HeadRead};
 use bh_base::NoMemory;
 use bh_model::{Fields, H1Why, Limits};
-use h1_head::fill_fields;
 use h1_rules::{Framing1, Scheme1};
-use httparse::spans::EMPTY_HEADER_SPAN;
 use std::alloc::{AllocError, Global};
 
 /// Parts of 16 bytes, sections of 120, and two interim responses.
