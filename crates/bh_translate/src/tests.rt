@@ -88,23 +88,29 @@ fn messages_get_their_texts(rt: HostRuntime) -> Result<(), NoMemory> {
 
 #[test]
 fn what_is_not_translated(rt: HostRuntime) -> Result<(), NoMemory> {
-    let rows: [(&[u8], IntoEnd); 7] = [
+    // With what was sent before.
+    let rows: [(&[u8], IntoEnd, &[u8]); 7] = [
         (
             b"\x00\x03GET\x05https\x00\x01/\x04\x02:b\x00",
             IntoEnd::Untranslatable(NoForm::Pseudo),
+            b"",
         ),
         // The last byte, which would be dead, comes behind the section that is judged.
         (
             b"\x00\x03GET\x05https\x00\x01/\x04\x02:b\x00\x00\x00\x01",
             IntoEnd::Untranslatable(NoForm::Pseudo),
+            b"",
         ),
         (
             b"\x00\x03GET\x05https\x00\x01/\x03\x01A\x00",
             IntoEnd::Untranslatable(NoForm::Host),
+            b"",
         ),
+        // The head of a response without a body waits, so nothing is written of one with content.
         (
             b"\x01@\xcc\x00\x01a\x00",
             IntoEnd::Untranslatable(NoForm::Bodyless),
+            b"",
         ),
         (
             b"\x01@\xc8\x11\x0econtent-length\x015\x03abc\x00",
@@ -112,6 +118,7 @@ fn what_is_not_translated(rt: HostRuntime) -> Result<(), NoMemory> {
                 field: 5,
                 content: 3,
             }),
+            b"HTTP/1.1 200 \r\ncontent-length: 5\r\n\r\n",
         ),
         // Without content, but no answer to HEAD.
         (
@@ -120,6 +127,7 @@ fn what_is_not_translated(rt: HostRuntime) -> Result<(), NoMemory> {
                 field: 9,
                 content: 0,
             }),
+            b"HTTP/1.1 200 \r\ncontent-length: 9\r\n\r\n",
         ),
         (
             b"\x00\x03GET\x05https\x00\x01/\x08\x04host\x02 h",
@@ -127,12 +135,13 @@ fn what_is_not_translated(rt: HostRuntime) -> Result<(), NoMemory> {
                 at: 21,
                 part: Part::Value,
             }),
+            b"",
         ),
     ];
-    for (input, end) in rows {
+    for (input, end, sent) in rows {
         for piece in [1, 400] {
-            let (got, _) = told(rt.alloc(), input, false, piece, &[], &[])?;
-            assert_eq!(rt; got, end);
+            let got = told(rt.alloc(), input, false, piece, &[], &[])?;
+            assert_eq!(rt; (got.0, got.1.as_slice()), (end, sent));
         }
     }
     Ok(())

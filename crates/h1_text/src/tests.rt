@@ -31,11 +31,7 @@ fn put(writer: &mut Http1Writer, sink: &mut MemSink, content: &[u8]) -> bool
 
 /// What is sent of a response behind an interim response, without lines and content and with an empty trailer section: with its head,
 /// and in all. Empty: a write failed.
-fn response(
-    alloc: Global,
-    to_head: bool,
-    status: u16,
-) -> Result<(Vec<u8>, Vec<u8>), NoMemory> {
+fn response(alloc: Global, to_head: bool, status: u16) -> Result<(Vec<u8>, Vec<u8>), NoMemory> {
     let none = Fields::with_room(alloc, 0, 0)?;
     let mut sink = MemSink::new(alloc, Vec::new(alloc), 9000)?;
     let mut writer = start(alloc, to_head)?;
