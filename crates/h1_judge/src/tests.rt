@@ -45,6 +45,22 @@ fn letter(event: &Event) -> &'static [u8] {
     }
 }
 
+/// What comes of some bytes: how many were taken, and the content among them or the letter of what is whole.
+fn take_some<'p>(
+    judged: &mut Judged,
+    bytes: &'p [u8],
+) -> Result<(usize, &'p [u8], &'static [u8]), IntoWhy>
+    requires { IsReady judged.old }
+    ensures { IfOk result (λ seen. IsReady judged.new) }
+{
+    match judged.push(bytes) {
+        Pushed::Need => Ok((bytes.len(), b"", b"")),
+        Pushed::Content { taken, bytes } => Ok((taken, bytes, b"")),
+        Pushed::Whole { taken, event } => Ok((taken, b"", letter(&event))),
+        Pushed::Refused(why) => Err(why),
+    }
+}
+
 /// Shows what comes of some bytes: how many were taken, or none where one was refused.
 fn show_some(
     text: &mut Vec<u8>,
@@ -54,18 +70,16 @@ fn show_some(
     requires { IsReady judged.old }
     ensures { IfOk result (λ taken. IfSome taken (λ n. IsReady judged.new)) }
 {
-    match judged.push(bytes) {
-        Pushed::Need => Ok(Some(bytes.len())),
-        Pushed::Content { taken, bytes } => {
-            text.extend_from_slice(bytes)?;
+    match take_some(judged, bytes) {
+        Ok((taken, content, letter)) => {
+            text.extend_from_slice(content)?;
+            if !letter.is_empty() {
+                text.extend_from_slice(letter)?;
+                show_fields(text, judged.cleaned())?;
+            }
             Ok(Some(taken))
         }
-        Pushed::Whole { taken, event } => {
-            text.extend_from_slice(letter(&event))?;
-            show_fields(text, judged.cleaned())?;
-            Ok(Some(taken))
-        }
-        Pushed::Refused(why) => {
+        Err(why) => {
             show_why(text, &why)?;
             Ok(None)
         }
@@ -93,15 +107,28 @@ fn show_all(
     Ok(rest.is_empty())
 }
 
+fn fresh(alloc: Global, to_head: bool) -> Result<Judged, NoMemory>
+    ensures { IfOk result IsReady }
+{
+    Judged::new(alloc, &Limits::default(), to_head)
+}
+
+/// Shows whether what was taken is a message, as a dot, or why not.
+fn show_end(text: &mut Vec<u8>, judged: &mut Judged) -> Result<(), AllocError>
+    requires { IsReady judged.old }
+{
+    match judged.finish() {
+        Ok(_) => text.extend_from_slice(b"."),
+        Err(why) => show_why(text, &why),
+    }
+}
+
 /// What is handed out of an input, and how it ends.
 fn told(alloc: Global, input: &[u8], piece: usize, to_head: bool) -> Result<Vec<u8>, NoMemory> {
-    let mut judged = Judged::new(alloc, &Limits::default(), to_head)?;
+    let mut judged = fresh(alloc, to_head)?;
     let mut text = Vec::new(alloc);
     if show_all(&mut text, &mut judged, input, piece)? {
-        match judged.finish() {
-            Ok(_) => text.extend_from_slice(b".")?,
-            Err(why) => show_why(&mut text, &why)?,
-        }
+        show_end(&mut text, &mut judged)?;
     }
     Ok(text)
 }
