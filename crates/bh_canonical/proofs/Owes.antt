@@ -1,5 +1,5 @@
 -- What is owed for the items of a message is its canonical text.
-use Rattle.std.proofs.Common.{◌≡◌, ℕ, Bool, true, false, List, [], ◌∷◌, ◌++◌, map, flat_map, refl, sym, ap, ◌∙◌, append_assoc, append-nil}
+use Rattle.std.proofs.Common.{◌≡◌, ◌≤◌, ℕ, Bool, true, false, List, [], ◌∷◌, ◌++◌, map, flat_map, refl, sym, ap, ◌∙◌, append_assoc, append-nil}
 use Rattle.std.proofs.lemmas.List.{map-append}
 use Rattle.bh_spec.specs.declared.Kind.TheVariants.{Request, Response}
 use Rattle.bh_spec.specs.declared.Form.TheVariants.{Indeterminate}
@@ -7,20 +7,20 @@ use Rattle.bh_spec.specs.declared.Omitted.{Omitted}
 use Rattle.bh_spec.specs.declared.Omitted.TheVariants as omits
 use Rattle.bh_spec.specs.Bounds.{Bounds}
 use Rattle.bh_spec.specs.Integers.{int}
-use Rattle.bh_spec.specs.Messages.{Field, Interim, Start, request, response, Message, kind_of}
+use Rattle.bh_spec.specs.Messages.{Field, Interim, Start, request, response, Message, IsValid, kind_of}
 use Rattle.bh_spec.specs.Texts.{Text}
 use Rattle.bh_spec.specs.Tails.{IsTail}
 use Rattle.bh_spec.specs.Spelling.{framing, Spells}
 use Rattle.bh_spec.specs.Viable.{IsMessageText}
-use Rattle.bh_spec.specs.Canonical.{string, section, interim, start, cut, canon}
-use Rattle.bh_spec.specs.Items.{Item, trailer_items, ending, start_items, tail_items, items, MessageOf}
+use Rattle.bh_spec.specs.Canonical.{string, section, interim, start, cut, canon, Fits}
+use Rattle.bh_spec.specs.Items.{Item, trailer_items, ending, start_items, tail_items, items}
 use Rattle.bh_spec.proofs.Fitting.{fits_where_spelled}
 use Rattle.bh_model.specs.Ranges.{AreLimits}
-use Rattle.bh_stream.specs.Outputs.{Output, written, weighed, plain}
+use Rattle.bh_stream.specs.Outputs.{Output, written, shown_in, weighed, plain}
 use Rattle.bh_stream.specs.Logs.{HasBody}
 use Rattle.bh_stream.specs.Messages.{ShowsMessages}
 use Rattle.bh_stream.proofs.Outputs.{written-append, written_plain}
-use Rattle.bh_stream.proofs.Messages.{shows_texts}
+use Rattle.bh_stream.proofs.Messages.{shows_front}
 use Rattle.bh_encode.specs.Calls.{interim_call, request_head, response_head, at_start, text_of, texts, head_calls}
 use Rattle.bh_encode.proofs.Together.{response_texts, canon_parts}
 use Rattle.bh_reading.proofs.Fits.{message_held}
@@ -54,13 +54,22 @@ head_owed (response interims status) fields q = response_owed false interims sta
 
 -- ---- the content and the end
 
-left_out : (L : Bounds) (m : Message) (o : Omitted) (z : ℕ) (t : Text) → Spells L m o z t → trailers_of (trailer_items o m.trailers ++ ending o z ∷ []) ≡ m.trailers
-left_out L m o z t h = by_tail o h.text.3.3.1 h.text.3.3.3
+-- a trailer section that is left out is empty
+abbrev pub IsLeftOut : Message → Omitted → Type 0
+IsLeftOut m o = (o ≡ omits.Nothing → ⊥) → m.trailers ≡ []
+
+left_out : (m : Message) (o : Omitted) (z : ℕ) → IsLeftOut m o → trailers_of (trailer_items o m.trailers ++ ending o z ∷ []) ≡ m.trailers
+left_out m omits.Nothing z h = refl
+left_out m omits.Trailers z h = sym (h (λ e. absurd cc))
+left_out m omits.Both z h = sym (h (λ e. absurd cc))
+
+spelled_left_out : (L : Bounds) (m : Message) (o : Omitted) (z : ℕ) (t : Text) → Spells L m o z t → IsLeftOut m o
+spelled_left_out L m o z t h = by_tail o h.text.3.3.1 h.text.3.3.3
   where
-    by_tail : (o : Omitted) (u : Text) → IsTail L h.form m.content m.trailers o z u → trailers_of (trailer_items o m.trailers ++ ending o z ∷ []) ≡ m.trailers
-    by_tail omits.Nothing u tail = refl
-    by_tail omits.Trailers u tail = sym tail.0
-    by_tail omits.Both u tail = sym tail.1
+    by_tail : (o : Omitted) (u : Text) → IsTail L h.form m.content m.trailers o z u → IsLeftOut m o
+    by_tail omits.Nothing u tail = λ some. absurd (some refl)
+    by_tail omits.Trailers u tail = λ some. tail.0
+    by_tail omits.Both u tail = λ some. tail.1
 
 no_content : (o : Omitted) (z : ℕ) (trailers : List Field) → content_of (trailer_items o trailers ++ ending o z ∷ []) ≡ []
 no_content omits.Nothing z trailers = refl
@@ -68,18 +77,17 @@ no_content omits.Trailers z trailers = refl
 no_content omits.Both z trailers = refl
 
 -- what is owed for a message
-message_due : (L : Bounds) (m : Message) (o : Omitted) (z : ℕ) (t : Text) → Spells L m o z t
-    → message_owed false (items m o z) ≡ plain (heads m.start m.fields) ++ (chunks_out m.content ++ end_out m.trailers)
-message_due L m o z t h =
+message_due : (m : Message) (o : Omitted) (z : ℕ) → IsLeftOut m o → message_owed false (items m o z) ≡ plain (heads m.start m.fields) ++ (chunks_out m.content ++ end_out m.trailers)
+message_due m o z h =
     let end = trailer_items o m.trailers ++ ending o z ∷ [] in
     head_owed m.start m.fields (tail_items m.content m.trailers o z)
     ∙ ap (λ (l : Output). plain (heads m.start m.fields) ++ l)
-    (tail_behind [] m.content end ∙ rest_due m.content end (no_content o z m.trailers) ∙ ap (λ (l : List Field). chunks_out m.content ++ end_out l) (left_out L m o z t h))
+    (tail_behind [] m.content end ∙ rest_due m.content end (no_content o z m.trailers) ∙ ap (λ (l : List Field). chunks_out m.content ++ end_out l) (left_out m o z h))
 
 -- its bytes are the canonical text
-pub owes_canon : (L : Bounds) (m : Message) (o : Omitted) (z : ℕ) (t : Text) → Spells L m o z t → written (message_owed false (items m o z)) ≡ canon m
-owes_canon L m o z t h =
-    ap written (message_due L m o z t h)
+pub owes_items : (m : Message) (o : Omitted) (z : ℕ) → IsLeftOut m o → written (message_owed false (items m o z)) ≡ canon m
+owes_items m o z h =
+    ap written (message_due m o z h)
     ∙ written-append (plain (heads m.start m.fields)) (chunks_out m.content ++ end_out m.trailers)
     ∙ ap (λ (l : List ℕ). l ++ written (chunks_out m.content ++ end_out m.trailers)) (written_plain (heads m.start m.fields))
     ∙ ap (λ (l : List ℕ). heads m.start m.fields ++ l)
@@ -87,6 +95,9 @@ owes_canon L m o z t h =
     ∙ ap (λ (l : List ℕ). l ++ written (end_out m.trailers)) (written_chunks m.content)
     ∙ ap (λ (l : List ℕ). flat_map string (cut 8192 m.content) ++ l) (written_plain (int 0 ++ section Indeterminate m.trailers)))
     ∙ canon_parts m
+
+pub owes_canon : (L : Bounds) (m : Message) (o : Omitted) (z : ℕ) (t : Text) → Spells L m o z t → written (message_owed false (items m o z)) ≡ canon m
+owes_canon L m o z t h = owes_items m o z (spelled_left_out L m o z t h)
 
 -- ---- it is a text of the grammar, with its content
 
@@ -117,12 +128,15 @@ weight_is m =
     ∙ ap (λ (o : Output). o ++ (chunks ++ end_out m.trailers)) (sym (plain-append number (begin ++ fields)) ∙ ap plain (sym (heads_are m.start m.fields)))
 
 -- a text of a message, of which each front shows the content that it has
+text_owed : (L : Bounds) → AreLimits L → (m : Message) → IsValid m → Fits L m → (o : Omitted) (z : ℕ) → IsLeftOut m o → (x : Text) × (message_owed false (items m o z) ≡ weighed x) × IsMessageText L x
+text_owed L limits m valid fits o z h =
+    let x = message_weighs L m valid (message_held L limits m fits) fits in
+    (x.0, message_due m o z h ∙ sym (weight_is m) ∙ sym x.2, (m, omits.Nothing, 0, x.1))
+
+pub shows_items : (L : Bounds) → AreLimits L → (m : Message) → IsValid m → Fits L m → (o : Omitted) (z : ℕ) → IsLeftOut m o → (front more : Output) → message_owed false (items m o z) ≡ front ++ more
+    → (n : ℕ) → HasBody (IsMessageText L) (written front) n → shown_in front ≤ n
+shows_items L limits m valid fits o z h = let x = text_owed L limits m valid fits o z h in shows_front L (message_owed false (items m o z)) x.0 x.1 x.2
+
 pub shows_content : (L : Bounds) → AreLimits L → ShowsMessages L (HasBody (IsMessageText L)) (message_owed false)
-shows_content L limits = shows_texts L (message_owed false) text_owed
-  where
-    text_owed : (q : List Item) (t : Text) → MessageOf L q t → (x : Text) × (message_owed false q ≡ weighed x) × IsMessageText L x
-    text_owed q t h =
-        let m = h.0 in
-        let fits = fits_where_spelled L m h.1 h.2 t h.4 in
-        let x = message_weighs L m h.4.valid (message_held L limits m fits) fits in
-        (x.0, ap (message_owed false) h.3 ∙ message_due L m h.1 h.2 t h.4 ∙ sym (weight_is m) ∙ sym x.2, (m, omits.Nothing, 0, x.1))
+shows_content L limits s t h =
+    shows_items L limits s.message h.valid (fits_where_spelled L s.message s.omitted s.padding t h) s.omitted s.padding (spelled_left_out L s.message s.omitted s.padding t h)

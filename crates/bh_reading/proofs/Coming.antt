@@ -4,10 +4,10 @@ use Rattle.std.proofs.lemmas.List.Elements.{All-head, All-tail}
 use Rattle.bh_spec.specs.declared.Omitted.{Omitted}
 use Rattle.bh_spec.specs.declared.Omitted.TheVariants as omits
 use Rattle.bh_spec.specs.Bounds.{Bounds}
-use Rattle.bh_spec.specs.Messages.{Field, Interim, Start, request, response, IsInterim, IsStart, AreHeaders, AreTrailers}
-use Rattle.bh_spec.specs.Canonical.{FieldsFit, StartFits}
+use Rattle.bh_spec.specs.Messages.{Field, Interim, Start, request, response, Message, IsValid, IsInterim, IsStart, AreHeaders, AreTrailers}
+use Rattle.bh_spec.specs.Canonical.{FieldsFit, StartFits, Fits}
 use Rattle.bh_spec.specs.Texts.{Text}
-use Rattle.bh_spec.specs.Items.{Item, start_items, tail_items, MessageOf, content_byte}
+use Rattle.bh_spec.specs.Items.{Item, start_items, tail_items, items, MessageOf, content_byte}
 use Rattle.bh_spec.proofs.Fitting.{fits_where_spelled}
 use Rattle.bh_model.specs.Ranges.{AreLimits}
 use Rattle.bh_reading.specs.Readings.{Counted, rest, IsAtStart}
@@ -32,13 +32,15 @@ start_comes : (L : Bounds) (a : Start) (fields : List Field) (q : List Item) →
 start_comes L (request control) fields q valid fit headers fits h = (record { start = (valid, fit); first = λ c e. refl; valid = headers; fits = fits }, h)
 start_comes L (response interims status) fields q valid fit headers fits h = responses_come L false interims status fields q valid.each fit.1 valid.final.low valid.final.high headers fits h
 
+-- the items of a valid message within the limits
+pub items_come : (L : Bounds) (m : Message) (o : Omitted) (z : ℕ) → IsValid m → Fits L m → MessageComes L false (items m o z)
+items_come L m o z valid fits =
+    start_comes L m.start m.fields (tail_items m.content m.trailers o z) valid.start fits.start valid.fields fits.fields (tail_comes L m.content m.trailers o z valid.trailers fits.trailers)
+
 pub message_comes : (L : Bounds) (q : List Item) (t : Text) → MessageOf L q t → MessageComes L false q
 message_comes L q t h =
     let m = h.0 in
-    let fits = fits_where_spelled L m h.1 h.2 t h.4 in
-    let valid = h.4.valid in
-    subst (MessageComes L false) (sym h.3)
-    (start_comes L m.start m.fields (tail_items m.content m.trailers h.1 h.2) valid.start fits.start valid.fields fits.fields (tail_comes L m.content m.trailers h.1 h.2 valid.trailers fits.trailers))
+    subst (MessageComes L false) (sym h.3) (items_come L m h.1 h.2 h.4.valid (fits_where_spelled L m h.1 h.2 t h.4))
 
 pub comes_at_start : (L : Bounds) → AreLimits L → (v : Counted) → IsAtStart L v → (q : List Item) (t : Text) → rest v q t → MessageComes L false q
 comes_at_start L limits v start q t h = message_comes L q t (from_start L limits v start q t h)

@@ -21,7 +21,7 @@ use Rattle.bh_stream.specs.declared.streaming.End.TheVariants as end
 use Rattle.bh_stream.proofs.Formats.{gives_always}
 use Rattle.bh_stream.proofs.Messages.{gives_messages}
 
-reads_sooner : (n at : ℕ) (steps : List Step) → n ≤ at → ReadsTo n steps → ReadsTo at steps
+pub reads_sooner : (n at : ℕ) (steps : List Step) → n ≤ at → ReadsTo n steps → ReadsTo at steps
 reads_sooner n at steps h r = record { front = r.front; last = r.last; back = r.back; split = r.split; is_read = r.is_read; behind = r.behind; few = omega (arith, r.few, h) }
 
 of_byte : (L : Bounds) (r : Refusal) (n : ℕ) (steps : List Step) → IsOfByte n r → ReadsTo n steps → ((more : List ℕ) → IsAnswer L (taken steps ++ more) (refused r)) → IsRefusal L r steps

@@ -47,6 +47,23 @@ module _ (R Q : Text → Type 0) (to : (t : Text) → R t → Q t) (from : (t : 
     at_reads = λ front back x r e. close_same Shown before front (h.at_reads front back x r e);
   }
 
+-- What was given begins the output of things, and so of what the things are of: each text of that is one of a thing with the same output.
+module _ {M N : Type 0} {spelled : M → Text → Type 0} {output : M → List ℕ} {limit : Option ℕ} (texts : N → Text → Type 0) (result : N → List ℕ)
+    (to : (n : N) (t : Text) → texts n t → (m : M) × spelled m t × (output m ≡ result n)) (from : (t : Text) → SomeOf spelled t → SomeOf texts t) where
+  pub gives_for : (steps : List Step) → GivesAlways spelled output limit steps → GivesAlways texts result limit steps
+  gives_for steps gives front back e =
+      let h = gives front back e in
+      record {
+        so_far = λ which long longest n text.
+            let m = to n text.text text.spelled in
+            subst (Begins (given front)) m.2 (h.so_far (unfinished_same (SomeOf spelled) (SomeOf texts) from some front which) long (longest_same (SomeOf texts) (SomeOf spelled) some from limit (taken front) long longest)
+            m.0 (record { text = text.text; after = text.after; spelled = m.1; begins = text.begins }));
+        behind = λ ended n text. let m = to n text.text text.spelled in subst (Begins (given front)) m.2 (h.behind ended m.0 (record { text = text.text; spelled = m.1; same = text.same }));
+      }
+    where
+      some : (t : Text) → SomeOf texts t → SomeOf spelled t
+      some t h = let m = to h.0 t h.1 in (m.0, m.1)
+
 module _ {M : Type 0} {spelled : M → Text → Type 0} {items_of : M → List Item} {output : M → List ℕ} {limit : Option ℕ} {V : Type 0} {rest : Rest V} {room : V → ℕ} {v : V} {owed : Owing}
     (knows : Knows spelled items_of output limit rest room v owed) where
   -- the items of a text are those of one thing

@@ -1,6 +1,6 @@
 -- Binary messages as a format: one reading; what a call says of messages by what it says of spellings; and texts of messages that begin
 -- with the same bytes have the same content there.
-use Rattle.std.proofs.Common.{◌≡◌, ℕ, List, ◌++◌, length, take, refl, sym, ◌∙◌, ap, subst, arith}
+use Rattle.std.proofs.Common.{◌≡◌, ◌≤◌, ℕ, List, ◌++◌, length, take, refl, sym, ◌∙◌, ap, subst, arith}
 use Rattle.std.proofs.lemmas.List.{take_all}
 use Rattle.bh_spec.specs.declared.Omitted.{Omitted}
 use Rattle.bh_spec.specs.Bounds.{Bounds}
@@ -11,7 +11,7 @@ use Rattle.bh_spec.specs.Viable.{IsMessageText}
 use Rattle.bh_spec.specs.Items.{Item, items, MessageOf}
 use Rattle.bh_spec.proofs.Whole.{one_next, one_reading}
 use Rattle.bh_spec.proofs.Marks.{bytes_of-append}
-use Rattle.bh_stream.specs.Outputs.{written, shown_in, weighed}
+use Rattle.bh_stream.specs.Outputs.{Output, written, shown_in, weighed}
 use Rattle.bh_base.specs.Steps.{Step, taken}
 use Rattle.bh_stream.specs.Logs.{HasBody, KeepsUp}
 use Rattle.bh_stream.specs.Jobs.{Owing}
@@ -21,7 +21,7 @@ use Rattle.bh_stream.proofs.Outputs.{weighed_bytes, weighed_content, weighed_fro
 use Rattle.bh_stream.proofs.Moving.{bytes-length}
 use Rattle.bh_stream.proofs.LogLaws.{take_front}
 use Rattle.bh_stream.proofs.SameMarks.{same_content}
-use Rattle.bh_stream.proofs.Formats.{longest_same, unfinished_same, keeps_same}
+use Rattle.bh_stream.proofs.Formats.{gives_for, keeps_same}
 
 -- texts of the same bytes are of one message
 pub one_spelling : (L : Bounds) (m n : Spelled) (t u : Text) → IsSpelled L m t → IsSpelled L n u → bytes_of t ≡ bytes_of u → items_in m ≡ items_in n
@@ -37,22 +37,7 @@ some_message L t h = let s = h.0 in (s.message, s.omitted, s.padding, h.1)
 
 -- What was given begins the output, by the spelling of each message.
 pub gives_messages : (L : Bounds) (output : Message → List ℕ) (steps : List Step) → GivesAlways (IsSpelled L) (λ s. output s.message) L.input steps → GivesFronts L output steps
-gives_messages L output steps gives front back e =
-    let h = gives front back e in
-    record {
-      so_far = λ which long longest m text. h.so_far (unfinished_same (SomeOf (IsSpelled L)) (SomeOf (IsTextOf L)) from to front which) long (longest_same (SomeOf (IsTextOf L)) (SomeOf (IsSpelled L)) to from L.input (taken front) long longest)
-          (of m text.spelled.0 text.spelled.1) (record { text = text.text; after = text.after; spelled = text.spelled.2; begins = text.begins });
-      behind = λ ended m text. h.behind ended (of m text.spelled.0 text.spelled.1) (record { text = text.text; spelled = text.spelled.2; same = text.same });
-    }
-  where
-    of : Message → Omitted → ℕ → Spelled
-    of m o z = record { message = m; omitted = o; padding = z }
-
-    to : (t : Text) → SomeOf (IsTextOf L) t → SomeOf (IsSpelled L) t
-    to t h = (of h.0 h.1.0 h.1.1, h.1.2)
-
-    from : (t : Text) → SomeOf (IsSpelled L) t → SomeOf (IsTextOf L) t
-    from t h = let s = h.0 in (s.message, (s.omitted, s.padding, h.1))
+gives_messages L output steps gives = gives_for (IsTextOf L) output (λ m t h. (record { message = m; omitted = h.0; padding = h.1 }, h.2, refl)) (λ t h. let s = h.0 in (s.message, (s.omitted, s.padding, h.1))) steps gives
 
 -- The content shown keeps up with that of messages.
 pub keeps_messages : (L : Bounds) (Shown : List ℕ → ℕ → Type 0) (most before : ℕ) (steps : List Step) → KeepsUp (SomeOf (IsSpelled L)) Shown most before steps → KeepsUp (IsMessageText L) Shown most before steps
@@ -70,12 +55,11 @@ written_content L front more spelled n body =
     let same = same_content (IsMessageText L) (λ bytes p q a b. one_next L L bytes p q a b) body.text (front ++ more) gone body.begins.rest (bytes_of more) body.spelled spelled text begins in
     sym body.counts ∙ ap (λ (k : ℕ). content_in (take k body.text)) long ∙ same ∙ ap (λ (k : ℕ). content_in (take k (front ++ more))) (bytes-length front) ∙ ap content_in (take_front front more)
 
--- A job that owes texts of messages shows the content that these have.
-pub shows_texts : (L : Bounds) (owed : Owing) → ((q : List Item) (t : Text) → MessageOf L q t → (x : Text) × (owed q ≡ weighed x) × IsMessageText L x)
-    → ShowsMessages L (HasBody (IsMessageText L)) owed
-shows_texts L owed texts m t h front more split n body =
-    let x = texts (items_in m) t (m.message, m.omitted, m.padding, refl, h) in
-    let f = weighed_front x.0 front more (sym x.1 ∙ split) in
+-- Each front of an output that is a text of a message shows the content that it has.
+pub shows_front : (L : Bounds) (out : Output) (x : Text) → out ≡ weighed x → IsMessageText L x → (front more : Output) → out ≡ front ++ more → (n : ℕ) → HasBody (IsMessageText L) (written front) n
+    → shown_in front ≤ n
+shows_front L out x weighs spelled front more split n body =
+    let f = weighed_front x front more (sym weighs ∙ split) in
     let bytes : written front ≡ bytes_of f.0 = sym (ap written f.3) ∙ weighed_bytes f.0 in
-    let count = written_content L f.0 f.1 (subst (IsMessageText L) f.2 x.2) n (subst (λ (l : List ℕ). HasBody (IsMessageText L) l n) bytes body) in
+    let count = written_content L f.0 f.1 (subst (IsMessageText L) f.2 spelled) n (subst (λ (l : List ℕ). HasBody (IsMessageText L) l n) bytes body) in
     omega (arith, count, ap shown_in f.3, weighed_content f.0)

@@ -13,7 +13,7 @@ use Rattle.bh_stream.specs.Logs.{Begins, AtEvery, GivesFront, IsClose}
 use Rattle.bh_stream.specs.Formats.{GivesAlways}
 use Rattle.bh_stream.specs.Calls.{PortCall}
 use Rattle.bh_stream.specs.Points.{one_read}
-use Rattle.bh_stream.specs.Telling.{BeginsOwn, ReadsAll, Tells, TellsOf, CompletesAs, EndStops, CountsAs, calls_of, AtEveryEntry, IsLogged}
+use Rattle.bh_stream.specs.Telling.{BeginsOwn, ReadsAll, Tells, TellsOf, CompletesAs, EndStops, CountsBy, CountsAs, calls_of, AtEveryEntry, IsLogged, PortTells, CalledSo}
 use Rattle.bh_stream.specs.declared.streaming.End.{End}
 use Rattle.bh_stream.specs.declared.streaming.End.TheVariants as end
 
@@ -217,3 +217,34 @@ module _ {M A R : Type 0} (spelled : M → Text → Type 0) (output : M → List
             → IfSome o (λ input. (answer : X) → IsAnswerFor input answer → (Rose (read_faults s) (read_faults t) → ⊥) → (Rose (write_faults s) (write_faults t) → ⊥) → r ≡ end_of answer (length input))
         by_left None h = tt
         by_left (Some input) h = λ answer is no_read no_write. one answer input h.sent is h.right (λ e. no_read (counted_as.read_fault e)) (λ e. no_write (counted_as.write_fault e))
+
+    -- All of it, where what holds at every point of the calls holds of calls that are alike.
+    pub port_tells : {X : Type 0} (Here : List Step → Type 0) → ((xs ys : List Step) → AreAlike xs ys → Here xs → Here ys) → AtEvery Here steps
+        → (IsAnswerFor : List ℕ → X → Type 0) (end_of : X → ℕ → End A R)
+        → ((answer : X) (input out : List ℕ) → IsAnswerFor input answer → Right r input out → (r ≡ end.ReadFault → ⊥) → (r ≡ end.WriteFault → ⊥) → r ≡ end_of answer (length input))
+        → PortTells spelled output limit Here Right IsAnswerFor end_of means log s r t
+    port_tells Here same here IsAnswerFor end_of one = record {
+      told = tells_of;
+      complete = completes_as IsAnswerFor end_of one;
+      logged = logged_as (AtEveryEntry Here) steps (log s) (log t) facts.logs (at_entries Here same steps call.asks here);
+      counts = counted_as;
+    }
+
+-- ---- the end that the caller sees
+
+module _ {A R E : Type 0} (of_end : End A R → E) (called : E → Option (End A R)) (back : (r : End A R) → called (of_end r) ≡ Some r) where
+  -- what holds of the end over the port
+  pub called_so : (U : Type 0) (P : End A R → Type 0) (r : End A R) (e : E) → e ≡ of_end r → P r → CalledSo (called e) U P
+  called_so U P r e same h = subst (λ (o : Option (End A R)). CalledSo o U P) (sym (ap called same ∙ back r)) h
+
+  of_some : (r q : End A R) → of_end r ≡ of_end q → r ≡ q
+  of_some r q e = let both : Some r ≡ Some q = sym (back r) ∙ ap called e ∙ back q in cc
+
+  -- and the counts of faults
+  pub called_counts : {S : Type 0} (port : Meanings S) (s t : S) (r : End A R) (e : E) → e ≡ of_end r → CountsAs port s r t → CountsBy (of_end end.ReadFault) (of_end end.WriteFault) port s e t
+  called_counts port s t r e same h = record {
+    read_fault = λ k. h.read_fault (of_some r end.ReadFault (sym same ∙ k));
+    write_fault = λ k. h.write_fault (of_some r end.WriteFault (sym same ∙ k));
+    quiet_reads = λ no. h.quiet_reads (λ k. no (same ∙ ap of_end k));
+    quiet_writes = λ no. h.quiet_writes (λ k. no (same ∙ ap of_end k));
+  }

@@ -1,5 +1,5 @@
 -- What a port tells of a call: by its input, by what was sent, by its counts of faults, and by its log.
-use Rattle.std.specs.Prelude.{◌≡◌, ℕ, List, [], ◌∷◌, ◌++◌, length, Option, Some, IfSome}
+use Rattle.std.specs.Prelude.{◌≡◌, ℕ, List, [], ◌∷◌, ◌++◌, length, Option, Some, None, IfSome}
 use Rattle.std.specs.Io.KnownBytes.{Appends}
 use Rattle.bh_spec.specs.Bounds.{IsWithin}
 use Rattle.bh_spec.specs.Texts.{Text}
@@ -55,12 +55,15 @@ EndStops (end.Refused r) steps = IsQuiet steps
 EndStops end.ReadFault steps = StopsAt is_bad_read steps
 EndStops end.WriteFault steps = StopsAt is_bad_write steps
 
--- A fault comes only where its count rose, and no other end leaves a count otherwise than it was.
-pub record CountsAs {A R S : Type 0} (port : Meanings S) (s : S) (r : End A R) (t : S) : Type 0 where
-  pub read_fault : r ≡ end.ReadFault → Rose (port.read_faults s) (port.read_faults t)
-  pub write_fault : r ≡ end.WriteFault → Rose (port.write_faults s) (port.write_faults t)
-  pub quiet_reads : (r ≡ end.ReadFault → ⊥) → port.read_faults t ≡ port.read_faults s
-  pub quiet_writes : (r ≡ end.WriteFault → ⊥) → port.write_faults t ≡ port.write_faults s
+-- A fault comes only where its count rose, and no other end leaves a count otherwise than it was: by the ends that say so.
+pub record CountsBy {E S : Type 0} (read_fails write_fails : E) (port : Meanings S) (s : S) (r : E) (t : S) : Type 0 where
+  pub read_fault : r ≡ read_fails → Rose (port.read_faults s) (port.read_faults t)
+  pub write_fault : r ≡ write_fails → Rose (port.write_faults s) (port.write_faults t)
+  pub quiet_reads : (r ≡ read_fails → ⊥) → port.read_faults t ≡ port.read_faults s
+  pub quiet_writes : (r ≡ write_fails → ⊥) → port.write_faults t ≡ port.write_faults s
+
+abbrev pub CountsAs : {A R S : Type 0} → Meanings S → S → End A R → S → Type 0
+CountsAs port s r t = CountsBy end.ReadFault end.WriteFault port s r t
 
 -- ---- a port that tells its log
 
@@ -77,3 +80,20 @@ AtEveryEntry P log = (front back : List Entry) → log ≡ front ++ back → P (
 -- what was added to the log in the call, where the port tells it
 abbrev pub IsLogged : (List Entry → Type 0) → Option (List Entry) → Option (List Entry) → Type 0
 IsLogged P before now = IfSome before (λ old. (log : List Entry) × (now ≡ Some (old ++ log)) × P log)
+
+-- ---- all of it
+
+-- What a port tells of a call. `Here` is what holds at every point of the calls, by their bytes.
+pub record PortTells {M X A R : Type 0} (spelled : M → Text → Type 0) (output : M → List ℕ) (limit : Option ℕ) (Here : List Step → Type 0)
+    (Right : End A R → List ℕ → List ℕ → Type 0) (IsAnswerFor : List ℕ → X → Type 0) (end_of : X → ℕ → End A R)
+    {S : Type 0} (port : Meanings S) (log : S → Option (List Entry)) (s : S) (r : End A R) (t : S) : Type 0 where
+  pub told : TellsOf spelled output limit Right port s r t
+  pub complete : CompletesAs IsAnswerFor end_of port s r t
+  pub logged : IsLogged (AtEveryEntry Here) (log s) (log t)
+  pub counts : CountsAs port s r t
+
+-- Of a call that takes its memory before: this holds of its end over the port; or memory ran out, there was no such end, and nothing was
+-- called.
+abbrev pub CalledSo : {E : Type 0} → Option E → (uncalled : Type 0) → (E → Type 0) → Type 0
+CalledSo None uncalled P = uncalled
+CalledSo (Some r) uncalled P = P r

@@ -32,6 +32,7 @@ use Rattle.bh_reading.specs.ReadingLaws.{reading_laws, alive_behind}
 use Rattle.bh_reading.proofs.Counts.{few_counts}
 use Rattle.bh_reading.proofs.Judging.{reading_judges}
 use Rattle.bh_reading.proofs.Coming.{comes_at_start}
+use Rattle.bh_stream.proofs.Calls.{reads_sooner}
 use Rattle.h1_spec.specs.Moments as moments
 use Rattle.h1_spec.specs.Moments.{first_of}
 use Rattle.h1_spec.specs.declared.Framing1.{Framing1}
@@ -149,13 +150,10 @@ module _ (L : Bounds) (limits : AreLimits L) (to_head : Bool) (v : JudgedView) (
       ∙ ap (λ (l : List ℕ). before ++ l) (ap (λ (l : List ℕ). front ++ l) (sym (append_assoc bytes after more)) ∙ sym (append_assoc front (bytes ++ after) more) ∙ ap (λ (l : List ℕ). l ++ more) (sym f))
       ∙ sym (append_assoc before others more) ∙ ap (λ (l : List ℕ). l ++ more) (sym e)
 
-  sooner : (n at : ℕ) (steps : List Step) → n ≤ at → ReadsTo n steps → ReadsTo at steps
-  sooner n at steps h r = record { front = r.front; last = r.last; back = r.back; split = r.split; is_read = r.is_read; behind = r.behind; few = omega (arith, r.few, h) }
-
   of_byte : (r : Refusal) (n : ℕ) (steps : List Step) → IsOfByte n r → ReadsTo n steps → ((more : List ℕ) → IsIntoAnswer L to_head (taken steps ++ more) (dead r)) → IsRefusedBinary L to_head r steps
-  of_byte (Dead at part) n steps h r a = (sooner n at steps h r, a)
-  of_byte (Limit at part) n steps h r a = (sooner n at steps h r, a)
-  of_byte (TooLong at) n steps h r a = (sooner n at steps h r, a)
+  of_byte (Dead at part) n steps h r a = (reads_sooner n at steps h r, a)
+  of_byte (Limit at part) n steps h r a = (reads_sooner n at steps h r, a)
+  of_byte (TooLong at) n steps h r a = (reads_sooner n at steps h r, a)
   of_byte (Ended at part) n steps h r a = absurd h
 
   is_of_byte : (d : DecoderView) (piece : List ℕ) (r : Refusal) (n : ℕ) → n ≤ d.taken → RefusesFirst d piece r → IsOfByte n r
@@ -277,7 +275,7 @@ module _ (L : Bounds) (limits : AreLimits L) (to_head : Bool) (v : JudgedView) (
         quiet,
         inl (
           place s.state s.before s.items s.moved s.others (Form form) s.refused form j,
-          sooner (length s.before) _ steps (judged_place s.state s.before s.items s.moved s.others (Form form) s.refused form j) h.read_to,
+          reads_sooner (length s.before) _ steps (judged_place s.state s.before s.items s.moved s.others (Form form) s.refused form j) h.read_to,
           λ more. judged_answer s.state s.before s.items s.moved s.others (Form form) s.refused form j (taken steps) more s.split,
         ),
       )

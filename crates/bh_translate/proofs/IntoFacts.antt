@@ -5,18 +5,18 @@ use Rattle.bh_spec.specs.declared.Refusal.TheVariants.{Dead, Limit, Ended, TooLo
 use Rattle.bh_spec.specs.declared.Summary.{Summary}
 use Rattle.bh_spec.specs.Bounds.{Bounds}
 use Rattle.bh_spec.specs.Reports.{summary}
-use Rattle.bh_base.specs.Steps.{Step, Entry, Meanings, Rose, taken, given, met, ReadFacts, WriteFacts, ReadLeaves, WriteLeaves}
+use Rattle.bh_base.specs.Steps.{Step, Entry, Meanings, taken, given, met, ReadFacts, WriteFacts, ReadLeaves, WriteLeaves}
 use Rattle.bh_model.specs.Ranges.{AreLimits}
 use Rattle.bh_stream.specs.Logs.{GivesFront}
 use Rattle.bh_stream.specs.Messages.{IsTextOf}
 use Rattle.bh_stream.specs.Runs.{Streams}
-use Rattle.bh_stream.specs.Telling.{EndStops, CountsAs}
+use Rattle.bh_stream.specs.Telling.{EndStops}
 use Rattle.bh_stream.specs.declared.streaming.End.{End}
 use Rattle.bh_stream.specs.declared.streaming.End.TheVariants as end
 use Rattle.bh_stream.proofs.Calls.{port_call}
 use Rattle.bh_stream.proofs.Formats.{gives_always}
 use Rattle.bh_stream.proofs.Messages.{gives_messages}
-use Rattle.bh_stream.proofs.Telling.{front_alike, at_entries, logged_as, facts, counted_as, tells_of, completes_as}
+use Rattle.bh_stream.proofs.Telling.{front_alike, port_tells}
 use Rattle.h1_spec.specs.Translation.{IntoAnswer, formed, dead, formless, IsIntoAnswer}
 use Rattle.h1_spec.proofs.Answering.{one_into}
 use Rattle.h1_judge.specs.declared.judged.IntoWhy.{IntoWhy}
@@ -26,9 +26,7 @@ use Rattle.h1_judge.specs.JudgedLaws.{judged_laws}
 use Rattle.h1_text.specs.Owed.{at_start, owed}
 use Rattle.h1_text.specs.Writers as writing
 use Rattle.h1_text.specs.Writers.{Writing, owes}
-use Rattle.bh_translate.specs.Into.{sent_text, IsFormless, IntoEnds, IsRightInto, into_end_of, IntoFacts, IntoSo, into_end}
-use Rattle.bh_translate.specs.declared.into.IntoEnd.{IntoEnd}
-use Rattle.bh_translate.specs.declared.into.IntoEnd.TheVariants as ends
+use Rattle.bh_translate.specs.Into.{sent_text, IsFormless, IntoEnds, IsRightInto, into_end_of, IntoFacts, into_called, into_end}
 use Rattle.bh_translate.proofs.Starting.{knows_clean}
 use Rattle.bh_translate.proofs.IntoEnding.{ended_in}
 
@@ -93,13 +91,8 @@ module _ (L : Bounds) (limits : AreLimits L) (to_head : Bool) (v : JudgedView) (
       (ended_in L limits to_head v start r h.steps h.outcome) in
       record {
         call = record { steps = h.steps; call = call };
-        told = tells_of (IsTextOf L) (sent_text to_head) L.input (IsRightInto L to_head) (stops L to_head) (right L to_head) (done L to_head) read_law ended_law write_law read_leaves write_leaves s t r h.steps call;
-        complete = completes_as (IsTextOf L) (sent_text to_head) L.input (IsRightInto L to_head) (stops L to_head) (right L to_head) (done L to_head) read_law ended_law write_law read_leaves write_leaves
-            s t r h.steps call (IsIntoAnswer L to_head) into_end_of (one L to_head r);
-        logged = logged_as _ h.steps (log s) (log t)
-            (facts (IsTextOf L) (sent_text to_head) L.input (IsRightInto L to_head) (stops L to_head) (right L to_head) (done L to_head) read_law ended_law write_law read_leaves write_leaves s t r h.steps call).logs
-            (at_entries (GivesFront (IsTextOf L) (sent_text to_head) L.input) front_alike h.steps call.asks call.gives);
-        counts = counted_as (IsTextOf L) (sent_text to_head) L.input (IsRightInto L to_head) (stops L to_head) (right L to_head) (done L to_head) read_law ended_law write_law read_leaves write_leaves s t r h.steps call;
+        tells = port_tells (IsTextOf L) (sent_text to_head) L.input (IsRightInto L to_head) (stops L to_head) (right L to_head) (done L to_head) read_law ended_law write_law read_leaves write_leaves s t r h.steps call
+            (GivesFront (IsTextOf L) (sent_text to_head) L.input) front_alike call.gives (IsIntoAnswer L to_head) into_end_of (one L to_head r);
       }
 
   -- the writer at the start owes the text
@@ -108,42 +101,11 @@ module _ (L : Bounds) (limits : AreLimits L) (to_head : Bool) (v : JudgedView) (
       → IntoFacts L to_head read write (record { left = left; sent = sent; read_faults = read_faults; write_faults = write_faults }) log s r t
   into_at w at s t r h = into_facts s t r (subst (λ (x : Writing). Streams rest room Moved IsRefused Tells misses true 8191 read write v (owes x) s r t) at.4 h)
 
--- what holds of the end of the loop holds of the end of the translator
-pub so : (U : Type 0) (P : End Summary IntoWhy → Type 0) (r : End Summary IntoWhy) (e : IntoEnd) → e ≡ into_end r → P r → IntoSo e U P
-so U P r e same h = subst (λ (x : IntoEnd). IntoSo x U P) (sym same) (by_end r h)
-  where
-    by_end : (r : End Summary IntoWhy) → P r → IntoSo (into_end r) U P
-    by_end (end.Done s) h = h
-    by_end (end.Refused (Binary why)) h = h
-    by_end (end.Refused (Form form)) h = h
-    by_end end.ReadFault h = h
-    by_end end.WriteFault h = h
+-- ---- the end of the translator
 
-is_read_fault : (r : End Summary IntoWhy) → into_end r ≡ ends.ReadFault → r ≡ end.ReadFault
-is_read_fault (end.Done s) e = absurd cc
-is_read_fault (end.Refused (Binary why)) e = absurd cc
-is_read_fault (end.Refused (Form form)) e = absurd cc
-is_read_fault end.ReadFault e = refl
-is_read_fault end.WriteFault e = absurd cc
-
-is_write_fault : (r : End Summary IntoWhy) → into_end r ≡ ends.WriteFault → r ≡ end.WriteFault
-is_write_fault (end.Done s) e = absurd cc
-is_write_fault (end.Refused (Binary why)) e = absurd cc
-is_write_fault (end.Refused (Form form)) e = absurd cc
-is_write_fault end.ReadFault e = absurd cc
-is_write_fault end.WriteFault e = refl
-
--- so do the counts of faults
-pub record SoCounts {S : Type 0} (port : Meanings S) (s : S) (e : IntoEnd) (t : S) : Type 0 where
-  pub read_fault : e ≡ ends.ReadFault → Rose (port.read_faults s) (port.read_faults t)
-  pub write_fault : e ≡ ends.WriteFault → Rose (port.write_faults s) (port.write_faults t)
-  pub quiet_reads : (e ≡ ends.ReadFault → ⊥) → port.read_faults t ≡ port.read_faults s
-  pub quiet_writes : (e ≡ ends.WriteFault → ⊥) → port.write_faults t ≡ port.write_faults s
-
-pub so_counts : {S : Type 0} (port : Meanings S) (s t : S) (r : End Summary IntoWhy) (e : IntoEnd) → e ≡ into_end r → CountsAs port s r t → SoCounts port s e t
-so_counts port s t r e same h = record {
-  read_fault = λ k. h.read_fault (is_read_fault r (sym same ∙ k));
-  write_fault = λ k. h.write_fault (is_write_fault r (sym same ∙ k));
-  quiet_reads = λ no. h.quiet_reads (λ k. no (same ∙ ap into_end k));
-  quiet_writes = λ no. h.quiet_writes (λ k. no (same ∙ ap into_end k));
-}
+pub into_back : (r : End Summary IntoWhy) → into_called (into_end r) ≡ Some r
+into_back (end.Done s) = refl
+into_back (end.Refused (Binary why)) = refl
+into_back (end.Refused (Form form)) = refl
+into_back end.ReadFault = refl
+into_back end.WriteFault = refl

@@ -3,3 +3,6 @@ pub mod Joining
 pub mod Starting
 pub mod IntoEnding
 pub mod IntoFacts
+pub mod Schemes
+pub mod FromFacts
+pub mod FromStarting

@@ -1,5 +1,5 @@
 -- How a translation to HTTP/1.1 ended, by the calls of its port.
-use Rattle.std.specs.Prelude.{◌≡◌, ◌⊎◌, ℕ, Bool, true, List, ◌++◌, length, Option, None}
+use Rattle.std.specs.Prelude.{◌≡◌, ◌⊎◌, ℕ, Bool, true, List, ◌++◌, length, Option, Some, None}
 use Rattle.bh_spec.specs.declared.NoForm.{NoForm}
 use Rattle.bh_spec.specs.declared.Omitted.{Omitted}
 use Rattle.bh_spec.specs.declared.Refusal.{Refusal}
@@ -11,7 +11,7 @@ use Rattle.bh_spec.specs.Reports.{summary}
 use Rattle.bh_base.specs.Steps.{Step, Entry, Meanings, taken, given, met, IsQuiet, StopsAt, is_bad_read, is_bad_write}
 use Rattle.bh_stream.specs.Logs.{ReadsTo, GivesFront}
 use Rattle.bh_stream.specs.Messages.{IsTextOf, GivesFronts}
-use Rattle.bh_stream.specs.Telling.{TellsOf, CompletesAs, CountsAs, AtEveryEntry, IsLogged}
+use Rattle.bh_stream.specs.Telling.{TellsOf, CompletesAs, AtEveryEntry, PortTells, CalledSo}
 use Rattle.bh_stream.specs.Calls.{PortCall}
 use Rattle.bh_stream.specs.declared.streaming.End.{End}
 use Rattle.bh_stream.specs.declared.streaming.End.TheVariants as end
@@ -107,19 +107,20 @@ IntoLog L to_head log = AtEveryEntry (GivesFront (IsTextOf L) (sent_text to_head
 pub record IntoFacts (L : Bounds) (to_head : Bool) {S : Type 0} (read write : S → Step → S → Type 0) (port : Meanings S)
     (log : S → Option (List Entry)) (s : S) (r : End Summary IntoWhy) (t : S) : Type 0 where
   pub call : IntoCall L to_head read write s r t
-  pub told : IntoTold L to_head port s r t
-  pub complete : IntoCompletes L to_head port s r t
-  pub logged : IsLogged (IntoLog L to_head) (log s) (log t)
-  pub counts : CountsAs port s r t
+  pub tells : PortTells (IsTextOf L) (sent_text to_head) L.input (GivesFront (IsTextOf L) (sent_text to_head) L.input)
+      (IsRightInto L to_head) (IsIntoAnswer L to_head) into_end_of port log s r t
 
--- The end of the translator is that of a call that ended so, of which this holds; or memory ran out, and nothing was called.
+-- the end over the port, if memory didn't run out before
+abbrev pub into_called : IntoEnd → Option (End Summary IntoWhy)
+into_called (ends.Done s) = Some (end.Done s)
+into_called (ends.Refused r) = Some (end.Refused (Binary r))
+into_called (ends.Untranslatable form) = Some (end.Refused (Form form))
+into_called ends.ReadFault = Some end.ReadFault
+into_called ends.WriteFault = Some end.WriteFault
+into_called ends.NoMemory = None
+
 abbrev pub IntoSo : IntoEnd → (uncalled : Type 0) → (End Summary IntoWhy → Type 0) → Type 0
-IntoSo (ends.Done s) uncalled P = P (end.Done s)
-IntoSo (ends.Refused r) uncalled P = P (end.Refused (Binary r))
-IntoSo (ends.Untranslatable form) uncalled P = P (end.Refused (Form form))
-IntoSo ends.ReadFault uncalled P = P end.ReadFault
-IntoSo ends.WriteFault uncalled P = P end.WriteFault
-IntoSo ends.NoMemory uncalled P = uncalled
+IntoSo e uncalled P = CalledSo (into_called e) uncalled P
 
 -- the end of the translator for one of the loop
 abbrev pub into_end : End Summary IntoWhy → IntoEnd

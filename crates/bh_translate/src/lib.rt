@@ -1,10 +1,12 @@
 //! The two translators: messages of Binary HTTP to HTTP/1.1, and back.
 #![tactic(auto)]
 
+mod from;
 mod into;
 mod laws;
 #[cfg(test)]
 mod tests;
 
+pub use from::FromEnd;
 pub use into::{IntoEnd, to_http1};
 pub use laws::the_text_is_sent;

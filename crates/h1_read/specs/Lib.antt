@@ -1,0 +1,4 @@
+pub mod Places
+pub mod Wrong
+pub mod Readings
+pub mod Laws

@@ -1,0 +1,2 @@
+//! HTTP/1.1 messages, read in pieces of any length.
+#![tactic(auto)]
