@@ -9,7 +9,6 @@ use Rattle.bh_words.specs.Arguments.{is_form, is_among}
 use Rattle.bh_words.specs.Words.{AreGiven, IsScheme, AreInto, AreFrom, IsTrial, MeanLimits, MeanFrom, MeanInto, MeanTrial, limited, from_http1, into_http1, counted, name_of, IsCommand}
 use Rattle.h1_spec.specs.declared.Scheme1.{Scheme1}
 use Rattle.h1_spec.specs.declared.Scheme1.TheVariants.{Http, Https}
-use Rattle.h1_spec.specs.Targets.{scheme_of}
 use Rattle.bh_words.specs.declared.commands.Command.{Command}
 use Rattle.bh_words.specs.declared.commands.Command.TheVariants.{Canon, Check, Show, FromHttp1, ToHttp1, Trial}
 use Rattle.clap.specs.Matches.{first_value, found_of, one_text}
