@@ -5,15 +5,15 @@ use Rattle.bh_spec.specs.Bounds.{Bounds}
 use Rattle.bh_spec.specs.Messages.{Message}
 use Rattle.bh_spec.specs.Viable.{IsMessageText}
 use Rattle.bh_base.specs.Steps.{Step, Entry, Rose, Meanings, ReadFacts, WriteFacts, ReadLeaves, WriteLeaves}
-use Rattle.bh_base.proofs.Chains.{chain_facts}
 use Rattle.bh_stream.specs.Logs.{KeepsUp}
 use Rattle.bh_stream.specs.Calls.{StreamCall}
+use Rattle.bh_stream.specs.Telling.{IsLogged}
 use Rattle.bh_stream.specs.declared.streaming.End.TheVariants as end
 use Rattle.bh_canon.specs.declared.engine.CanonEnd.{CanonEnd}
 use Rattle.bh_canon.specs.declared.engine.CanonEnd.TheVariants as ends
 use Rattle.bh_canon.specs.Ends.{ended}
-use Rattle.bh_canon.specs.Telling.{IsTold, IsComplete, IsLogged, KeepsLog, TakesFew}
-use Rattle.bh_canon.proofs.Telling.{told_call, counted_call, complete_call}
+use Rattle.bh_canon.specs.Telling.{IsTold, IsComplete, KeepsLog, TakesFew}
+use Rattle.bh_canon.proofs.Telling.{facts_of, told_call, counted_call, complete_call}
 use Rattle.bh_canon.proofs.LogTelling.{logged, takes_few}
 
 is_read_fault : (x : CanonEnd) → ended x ≡ end.ReadFault → x ≡ ends.ReadFault
@@ -49,15 +49,15 @@ module _ (L : Bounds) (output : Message → List ℕ) (Shown : List ℕ → ℕ 
   pub writing : (s t : S) (x : CanonEnd) (steps : List Step) → StreamCall L output read write steps s (ended x) t → KeepsUp (IsMessageText L) Shown most before steps
       → WritingFacts L output Shown most (record { left = left; sent = sent; read_faults = read_faults; write_faults = write_faults }) log steps s x t
   writing s t x steps call keeps =
-      let facts = chain_facts read_law read_leaves write_law write_leaves call.chain in
+      let facts = facts_of L output read_law ended_law write_law read_leaves write_leaves s t (ended x) steps call in
       let counts = counted_call L output read_law ended_law write_law read_leaves write_leaves s t (ended x) steps call in
       record {
         told = told_call L output read_law ended_law write_law read_leaves write_leaves s t (ended x) steps call;
         complete = complete_call L output read_law ended_law write_law read_leaves write_leaves s t (ended x) steps call;
         log_is = logged L output steps call Shown most before keeps (log s) (log t) facts.logs;
         few = takes_few L output steps call facts.fits;
-        read_fault = λ e. counts.0 (ap ended e);
-        write_fault = λ e. counts.1 (ap ended e);
-        quiet_reads = λ no. counts.2 (λ e. no (is_read_fault x e));
-        quiet_writes = λ no. counts.3 (λ e. no (is_write_fault x e));
+        read_fault = λ e. counts.read_fault (ap ended e);
+        write_fault = λ e. counts.write_fault (ap ended e);
+        quiet_reads = λ no. counts.quiet_reads (λ e. no (is_read_fault x e));
+        quiet_writes = λ no. counts.quiet_writes (λ e. no (is_write_fault x e));
       }

@@ -1,9 +1,9 @@
 -- How much an engine holds.
-use Rattle.std.proofs.Common.{◌≡◌, ◌≤◌, ◌+◌, ◌*◌, ◌/◌, ℕ, Option, Some, None, List, [], ◌∷◌, length, arith, sym, subst, unwrap_or}
+use Rattle.std.proofs.Common.{◌≡◌, ◌≤◌, ◌+◌, ◌*◌, ◌/◌, Option, Some, None, List, [], ◌∷◌, length, arith, sym, subst, unwrap_or}
 use Rattle.bh_spec.specs.Bounds.{Bounds}
 use Rattle.bh_spec.specs.Messages.{Control, Field}
 use Rattle.bh_model.specs.Lines.{FieldsView, lines_room, making_room}
-use Rattle.bh_model.specs.Ranges.{AreLimits, bounds_of}
+use Rattle.bh_model.specs.Ranges.{AreLimits}
 use Rattle.bh_control.specs.Stored.{AreWithin}
 use Rattle.bh_fields.specs.Readers.{AreStored}
 use Rattle.bh_canon.specs.Memory.{control_bytes, lines_bytes, making_bytes, fields_bytes}

@@ -1,6 +1,5 @@
 -- What a port tells of a call of the engine. `output` is what the call writes of a message.
-use Rattle.std.specs.Prelude.{◌≡◌, ◌≤◌, ◌+◌, ℕ, List, [], ◌∷◌, ◌++◌, length, take, Option, Some, IfSome}
-use Rattle.std.specs.Io.KnownBytes.{Appends}
+use Rattle.std.specs.Prelude.{◌≡◌, ◌≤◌, ◌+◌, ℕ, List, [], length, take, Option, Some, IfSome}
 use Rattle.bh_spec.specs.declared.Omitted.{Omitted}
 use Rattle.bh_spec.specs.declared.Refusal.{Refusal}
 use Rattle.bh_spec.specs.declared.Summary.{Summary}
@@ -10,11 +9,12 @@ use Rattle.bh_spec.specs.Pieces.{CanBecome}
 use Rattle.bh_spec.specs.Viable.{IsMessageText}
 use Rattle.bh_spec.specs.Answers.{Answer, whole, refused, IsAnswer}
 use Rattle.bh_spec.specs.Reports.{summary}
-use Rattle.bh_base.specs.Steps.{Step, Read, Write, Entry, Took, Gave, Meanings, Rose, taken}
+use Rattle.bh_base.specs.Steps.{Step, Entry, Meanings, Rose, taken}
 use Rattle.bh_push.specs.Pushes.{refused_at}
 use Rattle.bh_stream.specs.Logs.{Begins, GivesFront, IsClose}
 use Rattle.bh_stream.specs.Messages.{IsTextOf}
 use Rattle.bh_stream.specs.Points.{one_read}
+use Rattle.bh_stream.specs.Telling.{TellsOf, CompletesAs, AtEveryEntry}
 use Rattle.bh_stream.specs.declared.streaming.End.{End}
 use Rattle.bh_stream.specs.declared.streaming.End.TheVariants as end
 use Rattle.bh_canon.specs.Ends.{IsOutput, end_of}
@@ -23,35 +23,22 @@ use Rattle.bh_canon.specs.Ends.{IsOutput, end_of}
 abbrev pub BeginsAll : Bounds → (Message → List ℕ) → List ℕ → List ℕ → Type 0
 BeginsAll L output bytes sent = (m : Message) → CanBecome (IsTextOf L m) bytes → Begins sent (output m)
 
--- what was sent begins the output of the message that the input is, if it is one
-abbrev pub BeginsOwn : Bounds → (Message → List ℕ) → List ℕ → List ℕ → Type 0
-BeginsOwn L output input sent = (m : Message) (omitted : Omitted) (padding : ℕ) → IsAnswer L input (whole m omitted padding)
-    → Begins sent (output m)
+-- The end that is right for an input, and what was sent with it. Where the input is refused, what was sent begins the output of every
+-- message that goes on behind the bytes before the refused one.
+abbrev pub IsRight : Bounds → (Message → List ℕ) → End Summary Refusal → List ℕ → List ℕ → Type 0
+IsRight L output (end.Done s) input sent = IsOutput L output input s sent
+IsRight L output (end.Refused r) input sent = IsAnswer L input (refused r) × BeginsAll L output (take (refused_at r) input) sent
+IsRight L output end.ReadFault input sent = Unit {0}
+IsRight L output end.WriteFault input sent = Unit {0}
 
--- By the whole input, what is left of it, and what was sent before and is sent now. Where the input is refused, what was sent begins
--- the output of every message that goes on behind the bytes before the refused one.
-abbrev pub Told : Bounds → (Message → List ℕ) → End Summary Refusal → List ℕ → Option (List ℕ) → Option (List ℕ) → Option (List ℕ)
-    → Type 0
-Told L output (end.Done s) input left before now = (text : List ℕ) × IsOutput L output input s text × (left ≡ Some [])
-    × Appends before now text
-Told L output (end.Refused r) input left before now = IsAnswer L input (refused r)
-    × ((sent : List ℕ) × Appends before now sent × BeginsAll L output (take (refused_at r) input) sent)
-Told L output end.ReadFault input left before now = (sent : List ℕ) × Appends before now sent × BeginsOwn L output input sent
-Told L output end.WriteFault input left before now = (sent : List ℕ) × Appends before now sent × BeginsOwn L output input sent
-
--- Whatever the answer for the input is, the call ended with it where no fault was counted.
-abbrev pub Completes : Bounds → End Summary Refusal → List ℕ → (reads_before reads_now writes_before writes_now : ℕ) → Type 0
-Completes L r input reads_before reads_now writes_before writes_now = (answer : Answer) → IsAnswer L input answer
-    → (Rose reads_before reads_now → ⊥) → (Rose writes_before writes_now → ⊥) → r ≡ end_of answer (length input)
-
--- A port that tells what is left tells these of a call.
+-- What a port that tells what is left tells of a call: the end is right for its input, and what was sent begins the output of the
+-- message that the input is, if it is one.
 abbrev pub IsTold : Bounds → (Message → List ℕ) → {S : Type 0} → Meanings S → S → End Summary Refusal → S → Type 0
-IsTold L output port s r t = IfSome (port.left s) (λ input. Told L output r input (port.left t) (port.sent s) (port.sent t))
+IsTold L output port s r t = TellsOf (IsTextOf L) output L.input (IsRight L output) port s r t
 
--- Of such a port: the call ended with the answer for its input.
+-- Of such a port: the call ended with the answer for its input, where no fault was counted.
 abbrev pub IsComplete : Bounds → {S : Type 0} → Meanings S → S → End Summary Refusal → S → Type 0
-IsComplete L port s r t = IfSome (port.left s)
-    (λ input. Completes L r input (port.read_faults s) (port.read_faults t) (port.write_faults s) (port.write_faults t))
+IsComplete L port s r t = CompletesAs (IsAnswer L) end_of port s r t
 
 -- ---- a source that tells what is left
 
@@ -73,25 +60,11 @@ SourceCompletes L r before reads_before reads_now = IfSome before (λ input. (an
 
 -- ---- a port that tells its log
 
--- the calls that a log tells: each read had room for a byte, and each write sent its piece
-abbrev pub calls_of : List Entry → List Step
-calls_of [] = []
-calls_of ((Took bytes) ∷ log) = Read one_read bytes ∷ calls_of log
-calls_of ((Gave bytes) ∷ log) = Write (length bytes) bytes ∷ calls_of log
-
--- At every point of the log, P holds of the calls that it tells up to there.
-abbrev pub AtEveryEntry : (List Step → Type 0) → List Entry → Type 0
-AtEveryEntry P log = (front back : List Entry) → log ≡ front ++ back → P (calls_of front)
-
 -- At every point of the log what was given begins the output of every message that continues what was taken, and the content taken is
 -- at most so many bytes more than the content shown.
 pub record KeepsLog (L : Bounds) (output : Message → List ℕ) (Shown : List ℕ → ℕ → Type 0) (most : ℕ) (log : List Entry) : Type 0 where
   pub gives : AtEveryEntry (GivesFront (IsTextOf L) output L.input) log
   pub keeps_up : AtEveryEntry (IsClose (IsMessageText L) Shown most) log
-
--- what was added to the log in the call, where the port tells it
-abbrev pub IsLogged : (List Entry → Type 0) → Option (List Entry) → Option (List Entry) → Type 0
-IsLogged P before now = IfSome before (λ old. (log : List Entry) × (now ≡ Some (old ++ log)) × P log)
 
 -- Where the input is refused, at most so many bytes were taken in all: those before the refused one, and those of one read.
 abbrev pub TakesFew : End Summary Refusal → List Step → Type 0

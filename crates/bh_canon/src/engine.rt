@@ -6,11 +6,12 @@ ghost use Rattle.bh_spec.specs.Viable.{IsMessageText};
 ghost use Rattle.bh_base.specs.Steps.{Meanings, Rose};
 ghost use Rattle.bh_model.specs.Ranges.{AreLimits};
 ghost use Rattle.bh_stream.specs.Logs.{HasBody};
+ghost use Rattle.bh_stream.specs.Telling.{IsLogged};
 ghost use Rattle.bh_listing.specs.Shown.{Shown};
 ghost use Rattle.bh_canon.specs.Calls.{CanonCall, ShowCall, SourceCheck};
 ghost use Rattle.bh_canon.specs.Ends.{checked, ended};
 ghost use Rattle.bh_canon.specs.Memory.{bytes_held, numbers_held};
-ghost use Rattle.bh_canon.specs.Telling.{IsTold, IsComplete, IsLogged, KeepsLog, SourceTold, SourceCompletes};
+ghost use Rattle.bh_canon.specs.Telling.{IsTold, IsComplete, KeepsLog, SourceTold, SourceCompletes};
 
 use crate::lent::Lent;
 use crate::memory::Memory;

@@ -24,7 +24,9 @@ use Rattle.bh_stream.proofs.Messages.{shows_front}
 use Rattle.bh_encode.specs.Calls.{interim_call, request_head, response_head, at_start, text_of, texts, head_calls}
 use Rattle.bh_encode.proofs.Together.{response_texts, canon_parts}
 use Rattle.bh_reading.proofs.Fits.{message_held}
-use Rattle.bh_canonical.specs.Owed.{chunks_out, content_of, trailers_of, end_out, tail_owed, message_owed}
+use Rattle.bh_stream.specs.Tails.{trailers_of}
+use Rattle.bh_stream.proofs.Tails.{no_content}
+use Rattle.bh_canonical.specs.Owed.{chunks_out, end_out, tail_owed, message_owed}
 use Rattle.bh_canonical.proofs.Owing.{tail_behind, rest_due, written_chunks}
 use Rattle.bh_canonical.proofs.Weighs.{weight, message_weighs}
 
@@ -70,11 +72,6 @@ spelled_left_out L m o z t h = by_tail o h.text.3.3.1 h.text.3.3.3
     by_tail omits.Nothing u tail = λ some. absurd (some refl)
     by_tail omits.Trailers u tail = λ some. tail.0
     by_tail omits.Both u tail = λ some. tail.1
-
-no_content : (o : Omitted) (z : ℕ) (trailers : List Field) → content_of (trailer_items o trailers ++ ending o z ∷ []) ≡ []
-no_content omits.Nothing z trailers = refl
-no_content omits.Trailers z trailers = refl
-no_content omits.Both z trailers = refl
 
 -- what is owed for a message
 message_due : (m : Message) (o : Omitted) (z : ℕ) → IsLeftOut m o → message_owed false (items m o z) ≡ plain (heads m.start m.fields) ++ (chunks_out m.content ++ end_out m.trailers)

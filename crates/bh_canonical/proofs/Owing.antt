@@ -11,17 +11,11 @@ use Rattle.bh_stream.specs.Outputs.{Output, written, shown_in, plain, shown}
 use Rattle.bh_stream.proofs.Outputs.{written-append, shown-append, written_plain, written_shown, shown_plain, shown_shown}
 use Rattle.bh_stream.proofs.LogLaws.{take_front}
 use Rattle.bh_encode.proofs.Chunks.{one_more}
-use Rattle.bh_canonical.specs.Owed.{chunk_out, chunks_out, content_of, trailers_of, end_out, tail_owed}
+use Rattle.bh_stream.specs.Tails.{content_of, trailers_of}
+use Rattle.bh_stream.proofs.Tails.{content_behind, trailers_behind}
+use Rattle.bh_canonical.specs.Owed.{chunk_out, chunks_out, end_out, tail_owed}
 
 -- ---- content
-
-content_behind : (bytes : List ℕ) (q : List Item) → content_of (map content_byte bytes ++ q) ≡ bytes ++ content_of q
-content_behind [] q = refl
-content_behind (x ∷ bytes) q = ap (λ (l : List ℕ). x ∷ l) (content_behind bytes q)
-
-trailers_behind : (bytes : List ℕ) (q : List Item) → trailers_of (map content_byte bytes ++ q) ≡ trailers_of q
-trailers_behind [] q = refl
-trailers_behind (x ∷ bytes) q = trailers_behind bytes q
 
 pub tail_behind : (kept bytes : List ℕ) (q : List Item) → tail_owed kept (map content_byte bytes ++ q) ≡ tail_owed (kept ++ bytes) q
 tail_behind kept bytes q =

@@ -8,6 +8,7 @@ use Rattle.bh_spec.specs.Canonical.{section, cut}
 use Rattle.bh_spec.specs.Items.{Item, interim_response, head, content_byte, trailer_section, ending}
 use Rattle.bh_push.specs.Hands.{kind_of_head}
 use Rattle.bh_stream.specs.Outputs.{Output, plain, shown}
+use Rattle.bh_stream.specs.Tails.{content_of, trailers_of}
 use Rattle.bh_encode.specs.Calls.{text_of, interim_call}
 use Rattle.bh_canonical.specs.Stages.{head_call}
 
@@ -18,23 +19,6 @@ chunk_out chunk = plain (int (length chunk)) ++ shown chunk
 -- content in chunks of 8,192 bytes and a shorter last one
 abbrev pub chunks_out : List ℕ → Output
 chunks_out content = flat_map chunk_out (cut 8192 content)
-
--- the content that items begin with, and the lines of the trailer section that stands behind it, if one does
-abbrev pub content_of : List Item → List ℕ
-content_of [] = []
-content_of ((interim_response status fields) ∷ q) = []
-content_of ((head of fields) ∷ q) = []
-content_of ((content_byte x) ∷ q) = x ∷ content_of q
-content_of ((trailer_section fields) ∷ q) = []
-content_of ((ending omitted padding) ∷ q) = []
-
-abbrev pub trailers_of : List Item → List Field
-trailers_of [] = []
-trailers_of ((interim_response status fields) ∷ q) = []
-trailers_of ((head of fields) ∷ q) = []
-trailers_of ((content_byte x) ∷ q) = trailers_of q
-trailers_of ((trailer_section fields) ∷ q) = fields
-trailers_of ((ending omitted padding) ∷ q) = []
 
 -- the end of the content, and the trailer section
 abbrev pub end_out : List Field → Output

@@ -16,7 +16,7 @@ ghost use Rattle.bh_canonical.specs.Stages.{is_begun, IsBeforeHead, IsInContent,
 use bh_base::{Failed, Sink};
 use bh_encode::{AtContent, AtHead, StreamEncoder, WriteFault, begin, send_content};
 use bh_model::{ControlView, Fields, Kind};
-use bh_push::Decoder;
+use bh_reading::Hands;
 
 /// Where a message stands.
 #[derive(Drop)]
@@ -102,10 +102,14 @@ fn send_response<S: Sink>(
 }
 
 /// Sends the head that the decoder shows.
-pub fn send_head<S: Sink>(stage: Stage, sink: &mut S, decoder: &Decoder) -> Result<Stage, Failed>
+pub fn send_head<S: Sink, D: Hands>(
+    stage: Stage,
+    sink: &mut S,
+    decoder: &D,
+) -> Result<Stage, Failed>
     requires stage { IsBeforeHead stage }
-    requires due { HeadDue (is_begun stage) decoder.now }
-    ensures wrote { (of : Head) (fields : _) → decoder.now.head ≡ Some of → decoder.now.lines ≡ Some fields
+    requires due { HeadDue (is_begun stage) (D.head decoder.now) (D.lines decoder.now) }
+    ensures wrote { (of : Head) (fields : _) → D.head decoder.now ≡ Some of → D.lines decoder.now ≡ Some fields
         → Writes S.write_step sink.old (text_of (record { kind = kind_of_head of; begun = is_begun stage }) (head_call of fields))
         result sink.new }
     ensures next { IfOk result IsInContent }

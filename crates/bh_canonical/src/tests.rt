@@ -1,4 +1,7 @@
 //! Canonical texts over ports in memory.
+ghost use Rattle.std.specs.Prelude.{◌≡◌, ◌<◌, ◌≤◌, length};
+ghost use Rattle.bh_model.specs.Ranges.{AreLimits};
+
 use super::{CanonWriter, canonical};
 use bh_base::{MemPort, NoMemory};
 use bh_model::{Limits, Refusal, Summary};
@@ -38,20 +41,33 @@ fn content_of(end: End<Summary, Refusal>) -> Option<u64> {
     }
 }
 
-/// What is written for an input, behind a call that stops in the content of another; how much content it has; and how many bytes
-/// each write gave.
-fn written(
-    alloc: Global,
-    input: &[u8],
-    piece: usize,
-) -> Result<(Vec<u8>, Option<u64>, Vec<usize>), NoMemory> {
+/// What a call over this port tells of the content. Alone in a function its contract proves fast.
+fn told(
+    port: &mut MemPort,
+    reading: &mut Reading,
+    writer: &mut CanonWriter,
+    buffer: &mut [u8],
+) -> Option<u64>
+    requires limits { AreLimits reading.old.held.decoder.limits }
+    requires size { (0 < length buffer.old) × (length buffer.old ≤ 8192) }
+    ensures buffer { length buffer.new ≡ length buffer.old }
+    ensures limits { reading.new.held.decoder.limits ≡ reading.old.held.decoder.limits }
+{
+    content_of(canonical(port, reading, writer, buffer))
+}
+
+/// The same, behind a call that stops in the content of another message.
+fn told_behind(alloc: Global, port: &mut MemPort) -> Result<Option<u64>, NoMemory> {
     let mut reading = Reading::new(alloc, &Limits::default())?;
     let mut writer = CanonWriter::new(alloc)?;
     let mut buffer = vec![in alloc; 0; 8192]?;
     let mut before = port_of(alloc, &CHUNKED[..13], 100)?;
-    let _ = content_of(canonical(&mut before, &mut reading, &mut writer, &mut buffer));
-    let mut port = port_of(alloc, input, piece)?;
-    let content = content_of(canonical(&mut port, &mut reading, &mut writer, &mut buffer));
+    let _ = told(&mut before, &mut reading, &mut writer, &mut buffer);
+    Ok(told(port, &mut reading, &mut writer, &mut buffer))
+}
+
+/// How many bytes each write gave.
+fn writes_of(alloc: Global, port: &MemPort) -> Result<Vec<usize>, NoMemory> {
     let mut writes = Vec::with_capacity(alloc, 100)?;
     for i in 0..port.calls() {
         let (is_read, bytes) = port.call(i);
@@ -59,7 +75,31 @@ fn written(
             writes.push(bytes.len())?;
         }
     }
-    Ok((port.sent().to_vec(alloc)?, content, writes))
+    Ok(writes)
+}
+
+/// What is written for an input, and how much content it has.
+fn written(alloc: Global, input: &[u8], piece: usize) -> Result<(Vec<u8>, Option<u64>), NoMemory> {
+    let mut port = port_of(alloc, input, piece)?;
+    let content = told_behind(alloc, &mut port)?;
+    Ok((port.sent().to_vec(alloc)?, content))
+}
+
+/// How many bytes each write gave for an input in one piece, and how much content it has.
+fn weighed(alloc: Global, input: &[u8]) -> Result<(Vec<usize>, Option<u64>), NoMemory> {
+    let mut port = port_of(alloc, input, 30_000)?;
+    let content = told_behind(alloc, &mut port)?;
+    Ok((writes_of(alloc, &port)?, content))
+}
+
+/// A request of known length with so much content, whose length is spelled so.
+fn request_of(alloc: Global, size: usize, length: &[u8]) -> Result<Vec<u8>, NoMemory> {
+    let mut input = b"\x00\x03GET\x05https\x00\x01/\x00".to_vec(alloc)?;
+    input.extend_from_slice(length)?;
+    for _ in 0..size {
+        input.push(b'a')?;
+    }
+    Ok(input)
 }
 
 #[test]
@@ -73,8 +113,8 @@ fn one_text_for_each_form_and_cut(rt: HostRuntime) -> Result<(), NoMemory> {
         ("the canonical text", CANON, 100),
     ];
     for (shows, input, piece) in rows {
-        let (sent, content, _) = written(alloc, input, piece)?;
-        assert_eq!(rt; (sent.as_slice(), content), (CANON, Some(3)), "{shows}");
+        let got = written(alloc, input, piece)?;
+        assert_eq!(rt; got, (CANON.to_vec(alloc)?, Some(3)), "{shows}");
     }
     Ok(())
 }
@@ -89,17 +129,9 @@ fn one_write_for_each_whole_chunk(rt: HostRuntime) -> Result<(), NoMemory> {
         (20_000, b"\x80\x00\x4e\x20", &[15, 8_194, 8_194, 3_618, 2]),
     ];
     for (size, length, writes) in rows {
-        let mut input = b"\x00\x03GET\x05https\x00\x01/\x00".to_vec(alloc)?;
-        input.extend_from_slice(length)?;
-        for _ in 0..size {
-            input.push(b'a')?;
-        }
-        let (_, content, got) = written(alloc, &input, 30_000)?;
-        assert_eq!(rt;
-            (got.as_slice(), content),
-            (writes, Some(size as u64)),
-            "{size}"
-        );
+        let input = request_of(alloc, size, length)?;
+        let got = weighed(alloc, &input)?;
+        assert_eq!(rt; got, (writes.to_vec(alloc)?, Some(size as u64)), "{size}");
     }
     Ok(())
 }

@@ -5,7 +5,7 @@ ghost use Rattle.bh_canonical.specs.Writers.{before_all};
 use crate::sending::{Stage, send_end, send_head, send_interim};
 use bh_base::{Failed, NoMemory, Sink, write_all};
 use bh_model::Fields;
-use bh_reading::Reading;
+use bh_reading::Hands;
 use bh_stream::{Event, Job};
 use std::alloc::Global;
 use std::marker::Model;
@@ -105,7 +105,7 @@ impl CanonWriter {
     }
 }
 
-impl<S: Sink> Job<S, Reading> for CanonWriter {
+impl<S: Sink, D: Hands> Job<S, D> for CanonWriter {
     ghost use Rattle.std.specs.Prelude.{true};
     ghost use Rattle.bh_canonical.specs.Writers.{owed, held, takes};
 
@@ -132,25 +132,24 @@ impl<S: Sink> Job<S, Reading> for CanonWriter {
         written
     }
 
-    fn event(&mut self, sink: &mut S, decoder: &Reading, event: Event) -> Result<(), Failed> {
-        let shown = decoder.decoder();
+    fn event(&mut self, sink: &mut S, decoder: &D, event: Event) -> Result<(), Failed> {
         let stage = mem::replace(&mut self.stage, Stage::Ended);
         match event {
-            Event::Interim { status } => match send_interim(stage, sink, status, shown.fields()) {
+            Event::Interim { status } => match send_interim(stage, sink, status, decoder.fields()) {
                 Ok(next) => {
                     self.stage = next;
                     Ok(())
                 }
                 Err(failed) => Err(failed),
             },
-            Event::Head => match send_head(stage, sink, shown) {
+            Event::Head => match send_head(stage, sink, decoder) {
                 Ok(next) => {
                     self.stage = next;
                     Ok(())
                 }
                 Err(failed) => Err(failed),
             },
-            Event::Trailers => send_end(stage, sink, content_of(&self.chunk), shown.fields()),
+            Event::Trailers => send_end(stage, sink, content_of(&self.chunk), decoder.fields()),
         }
     }
 

@@ -6,6 +6,7 @@ use Rattle.bh_spec.specs.declared.Refusal.{Refusal}
 use Rattle.bh_spec.specs.declared.Summary.{Summary}
 use Rattle.bh_spec.specs.Bounds.{Bounds}
 use Rattle.bh_spec.specs.Messages.{Message}
+use Rattle.bh_stream.specs.Telling.{IsLogged}
 use Rattle.bh_stream.specs.declared.streaming.End.{End}
 use Rattle.bh_stream.specs.declared.streaming.End.TheVariants as end
 use Rattle.bh_canon.specs.declared.engine.CanonEnd.{CanonEnd}
@@ -15,7 +16,7 @@ use Rattle.bh_canon.specs.declared.engine.CheckEnd.TheVariants as checks
 use Rattle.bh_canon.specs.Ends.{ended, checked}
 use Rattle.bh_canon.specs.Lending.{NoWrite}
 use Rattle.bh_canon.specs.Calls.{SourceCheck}
-use Rattle.bh_canon.specs.Telling.{IsTold, IsComplete, IsLogged, KeepsLog, SourceTold, SourceCompletes}
+use Rattle.bh_canon.specs.Telling.{IsTold, IsComplete, KeepsLog, SourceTold, SourceCompletes}
 use Rattle.bh_cmd.specs.declared.exits.Exit.TheVariants.{ReadFault, WriteFault, NoMemory}
 use Rattle.bh_cmd.specs.Exits.{exit_of, EndsSo}
 use Rattle.bh_cmd.specs.Runs.{WritingRun, CheckRun}

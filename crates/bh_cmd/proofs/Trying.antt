@@ -35,7 +35,7 @@ trial_means = record { left = trial_left; sent = untold_bytes; read_faults = no_
 -- What the engine says of its call, when its port counted what was written.
 module _ (n : ℕ) (w : TrialView) where
   pub engine_refused : (refusal : Refusal) → IsTold default_bounds canon trial_means (new_trial n) (end.Refused refusal) w → IsAnswer default_bounds (trial n) (refused refusal)
-  engine_refused refusal told = told.0
+  engine_refused refusal told = told.right.0
 
   pub engine_completes : (r : End Summary Refusal) → IsComplete default_bounds trial_means (new_trial n) r w
       → (answer : Answer) → IsAnswer default_bounds (trial n) answer → r ≡ end_of answer (length (trial n))

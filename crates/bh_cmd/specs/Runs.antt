@@ -16,10 +16,11 @@ use Rattle.bh_spec.specs.Canonical.{canon}
 use Rattle.bh_spec.specs.Listing.{show}
 use Rattle.bh_spec.specs.Viable.{IsMessageText}
 use Rattle.bh_stream.specs.Logs.{HasBody}
+use Rattle.bh_stream.specs.Telling.{IsLogged}
 use Rattle.bh_stream.specs.declared.streaming.End.{End}
 use Rattle.bh_canon.specs.Ends.{IsCanon, end_of}
 use Rattle.bh_canon.specs.Calls.{CanonCall, ShowCall, SourceCheck}
-use Rattle.bh_canon.specs.Telling.{IsTold, IsComplete, IsLogged, KeepsLog, SourceTold, SourceCompletes}
+use Rattle.bh_canon.specs.Telling.{IsTold, IsComplete, KeepsLog, SourceTold, SourceCompletes}
 use Rattle.bh_words.specs.declared.commands.Command.{Command}
 use Rattle.bh_words.specs.Words.{IsCommand}
 use Rattle.bh_cmd.specs.declared.exits.Exit.{Exit}

@@ -16,6 +16,7 @@ pub use control::ControlReader;
 pub use laws::{begun_is_control_data, one_control, one_next_part, same_from_the_beginning};
 pub use sets::numbers;
 pub use status::{StatusReader, StatusStep};
+pub use strings::Strings;
 
 #[cfg(test)]
 mod tests;

@@ -138,18 +138,6 @@ impl Fields {
         self.making = Some(self.bytes.len());
     }
 
-    /// Adds a byte to the name of the line that is being made, in lower case.
-    pub fn put_name(&mut self, byte: u8)
-        requires making { IsSomeAnd self.old.making (λ line. line.value ≡ []) }
-        requires spare { 1 ≤ self.old.spare }
-        ensures lines { self.new.lines ≡ self.old.lines }
-        ensures making { self.new.making ≡ option_map (name_grown_by (byte ∷ [])) self.old.making }
-        ensures spare { self.new.spare + 1 ≡ self.old.spare }
-        ensures free { self.new.free ≡ self.old.free }
-    {
-        self.put_names(&[byte]);
-    }
-
     /// Adds bytes to the name of the line that is being made, in lower case.
     pub fn put_names(&mut self, bytes: &[u8])
         requires making { IsSomeAnd self.old.making (λ line. line.value ≡ []) }
@@ -161,18 +149,6 @@ impl Fields {
     {
         push_lower(&mut self.bytes, bytes);
         self.making = Some(self.bytes.len());
-    }
-
-    /// Adds a byte to the value of the line that is being made.
-    pub fn put_value(&mut self, byte: u8)
-        requires making { IsSomeAnd self.old.making (λ line. 0 < length line.name) }
-        requires spare { 1 ≤ self.old.spare }
-        ensures lines { self.new.lines ≡ self.old.lines }
-        ensures making { self.new.making ≡ option_map (value_grown_by (byte ∷ [])) self.old.making }
-        ensures spare { self.new.spare + 1 ≡ self.old.spare }
-        ensures free { self.new.free ≡ self.old.free }
-    {
-        self.put_values(&[byte]);
     }
 
     /// Adds bytes to the value of the line that is being made.

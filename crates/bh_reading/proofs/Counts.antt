@@ -55,9 +55,13 @@ module _ (part section interims input : ℕ) (range : AreInRange part section in
   few_lines : (m : Message) → Fits L m → line_count m ≤ 2 ^ 40
   few_lines m h = omega (arith, few_before m.start h.start, few m.fields h.fields, few m.trailers h.trailers)
 
+pub few_where_fits : (L : Bounds) → AreLimits L → (m : Message) → Fits L m → line_count m ≤ 2 ^ 40
+few_where_fits L limits m h =
+    few_lines limits.part limits.section limits.interims limits.input limits.range m (subst (λ (K : Bounds). Fits K m) limits.same h)
+
 pub few_counts : (L : Bounds) → AreLimits L → (m : Message) (o : Omitted) (z : ℕ) (bytes : List ℕ) → IsAnswer L bytes (whole m o z) → (line_count m ≤ 2 ^ 40) × (length m.content ≤ 2 ^ 40)
 few_counts L limits m o z bytes answer =
     let short : length bytes ≤ limits.input = subst (λ (K : Bounds). IsWithin K.input (length bytes)) limits.same answer.0 in (
-      few_lines limits.part limits.section limits.interims limits.input limits.range m (subst (λ (K : Bounds). Fits K m) limits.same (fits_where_spelled L m o z answer.1.text answer.1.spelled)),
+      few_where_fits L limits m (fits_where_spelled L m o z answer.1.text answer.1.spelled),
       omega (arith, content_long L m o z bytes answer.1, short, limits.range.input_high),
     )

@@ -30,13 +30,13 @@ use Rattle.bh_reading.specs.ReadingLaws.{lines-append, kind-append}
 
 -- ---- what the items of a message count
 
-tail_lines : (content : List ℕ) (trailers : List Field) (o : Omitted) (z : ℕ) → ((o ≡ omits.Nothing → ⊥) → length trailers ≡ 0) → lines_in (tail_items content trailers o z) ≡ length trailers
+pub tail_lines : (content : List ℕ) (trailers : List Field) (o : Omitted) (z : ℕ) → ((o ≡ omits.Nothing → ⊥) → length trailers ≡ 0) → lines_in (tail_items content trailers o z) ≡ length trailers
 tail_lines [] trailers omits.Nothing z h = omega arith
 tail_lines [] trailers omits.Trailers z h = omega (arith, h (λ e. absurd (cc)))
 tail_lines [] trailers omits.Both z h = omega (arith, h (λ e. absurd (cc)))
 tail_lines (x ∷ content) trailers o z h = tail_lines content trailers o z h
 
-start_lines : (a : Start) (fields : List Field) → lines_in (start_items a fields) ≡ interim_lines a + length fields
+pub start_lines : (a : Start) (fields : List Field) → lines_in (start_items a fields) ≡ interim_lines a + length fields
 start_lines (request c) fields = omega arith
 start_lines (response [] status) fields = omega arith
 start_lines (response (i ∷ is) status) fields =
@@ -44,13 +44,13 @@ start_lines (response (i ∷ is) status) fields =
     let sum : interim_lines (response (i ∷ is) status) ≡ length i.fields + interim_lines (response is status) = sum_by-cons (λ (j : Interim). length j.fields) i is in
     omega (arith, all, sum, start_lines (response is status) fields)
 
-tail_content : (content : List ℕ) (trailers : List Field) (o : Omitted) (z : ℕ) → content_items (tail_items content trailers o z) ≡ length content
+pub tail_content : (content : List ℕ) (trailers : List Field) (o : Omitted) (z : ℕ) → content_items (tail_items content trailers o z) ≡ length content
 tail_content [] trailers omits.Nothing z = refl
 tail_content [] trailers omits.Trailers z = refl
 tail_content [] trailers omits.Both z = refl
 tail_content (x ∷ content) trailers o z = omega (arith, tail_content content trailers o z)
 
-start_content : (a : Start) (fields : List Field) → content_items (start_items a fields) ≡ 0
+pub start_content : (a : Start) (fields : List Field) → content_items (start_items a fields) ≡ 0
 start_content (request c) fields = refl
 start_content (response [] status) fields = refl
 start_content (response (i ∷ is) status) fields = start_content (response is status) fields
@@ -79,13 +79,23 @@ message_lines : (L : Bounds) (m : Message) (o : Omitted) (z : ℕ) (t : Text) �
 message_lines L m o z t h =
     omega (arith, lines-append (start_items m.start m.fields) (tail_items m.content m.trailers o z), start_lines m.start m.fields, tail_lines m.content m.trailers o z (left_out L m o z t h))
 
-message_content : (m : Message) (o : Omitted) (z : ℕ) → content_items (items m o z) ≡ length m.content
+pub message_content : (m : Message) (o : Omitted) (z : ℕ) → content_items (items m o z) ≡ length m.content
 message_content m o z =
     omega (arith, items-append (start_items m.start m.fields) (tail_items m.content m.trailers o z), start_content m.start m.fields, tail_content m.content m.trailers o z)
 
-message_kind : (m : Message) (o : Omitted) (z : ℕ) (kind : Kind) → kind_behind (items m o z) kind ≡ kind_of m.start
+pub message_kind : (m : Message) (o : Omitted) (z : ℕ) (kind : Kind) → kind_behind (items m o z) kind ≡ kind_of m.start
 message_kind m o z kind =
     kind-append (start_items m.start m.fields) (tail_items m.content m.trailers o z) kind ∙ tail_kind m.content m.trailers o z (kind_behind (start_items m.start m.fields) kind) ∙ start_kind m.start m.fields kind
+
+-- within the limit of the input
+pub within_input : (o : Option ℕ) (limit n : ℕ) → o ≡ Some limit → n ≤ limit → IsWithin o n
+within_input (Some k) limit n e h = let same : k ≡ limit = cc in omega (arith, h, same)
+within_input None limit n e h = absurd (cc)
+
+pub same_summary : (k k' : Kind) (b b' l l' c c' z : ℕ) (o : Omitted) → k ≡ k' → b ≡ b' → l ≡ l' → c ≡ c'
+    → ◌≡◌ {A = Summary} (record { kind = k; bytes = b; lines = l; content = c; padding = z; omitted = o })
+    (record { kind = k'; bytes = b'; lines = l'; content = c'; padding = z; omitted = o })
+same_summary k k' b b' l l' c c' z o e f g h = λ j. record { kind = e j; bytes = f j; lines = g j; content = h j; padding = z; omitted = o }
 
 -- ---- the answers
 
@@ -163,15 +173,6 @@ module _ (L : Bounds) (few : (m : Message) (o : Omitted) (z : ℕ) (bytes : List
         let content_are : w.content ≡ length a.0.content = omega (arith, m.content, start.content, content, small.1) in
         let kind_is : w.kind ≡ kind_of a.0.start = m.kind ∙ sym (kind-append i (ending o z ∷ []) v.kind) ∙ ap (λ (q : List Item). kind_behind q v.kind) (sym same) ∙ message_kind a.0 o z v.kind in
         (a.0, same, answer, is ∙ same_summary w.kind (kind_of a.0.start) w.held.decoder.taken (length before) w.lines (line_count a.0) w.content (length a.0.content) z o kind_is taken_behind lines_are content_are)
-      where
-        within_input : (o : Option ℕ) (limit n : ℕ) → o ≡ Some limit → n ≤ limit → IsWithin o n
-        within_input (Some k) limit n e h = let same : k ≡ limit = cc in omega (arith, h, same)
-        within_input None limit n e h = absurd (cc)
-
-        same_summary : (k k' : Kind) (b b' l l' c c' z : ℕ) (o : Omitted) → k ≡ k' → b ≡ b' → l ≡ l' → c ≡ c'
-            → ◌≡◌ {A = Summary} (record { kind = k; bytes = b; lines = l; content = c; padding = z; omitted = o })
-            (record { kind = k'; bytes = b'; lines = l'; content = c'; padding = z; omitted = o })
-        same_summary k k' b b' l l' c c' z o e f g h = λ j. record { kind = e j; bytes = f j; lines = g j; content = h j; padding = z; omitted = o }
 
   pub reading_judges : Judges L rest Moved refuses tells misses v
   reading_judges = record {

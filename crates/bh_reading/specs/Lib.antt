@@ -1,3 +1,4 @@
+pub mod Handing
 pub mod Readings
 pub mod ContentLaws
 pub mod ReadingLaws

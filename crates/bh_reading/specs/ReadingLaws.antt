@@ -35,7 +35,7 @@ room_at (Some n) limit taken e = let same : n ≡ limit = cc in ap (λ (k : ℕ)
 room_at None limit taken e = absurd (cc)
 
 -- residuals, one behind the other
-behind_items : (R S T : List Item → Text → Type 0) (x y : List ℕ) (i j : List Item) → IsResidual R x (λ q. i ++ q) S
+pub behind_items : (R S T : List Item → Text → Type 0) (x y : List ℕ) (i j : List Item) → IsResidual R x (λ q. i ++ q) S
     → IsResidual S y (λ q. j ++ q) T → IsResidual R (x ++ y) (λ q. (i ++ j) ++ q) T
 behind_items R S T x y i j a b =
     let both = residual_on R x (λ (q : List Item). i ++ q) S y (λ (q : List Item). j ++ q) T a b in

@@ -5,16 +5,15 @@ use Rattle.bh_spec.specs.declared.Omitted.{Omitted}
 use Rattle.bh_spec.specs.declared.Refusal.{Refusal}
 use Rattle.bh_spec.specs.declared.Summary.{Summary}
 use Rattle.bh_spec.specs.Bounds.{Bounds, no_bounds}
-use Rattle.bh_spec.specs.Messages.{Field}
 use Rattle.bh_spec.specs.Texts.{Text}
-use Rattle.bh_spec.specs.Items.{Item, interim_response, head, content_byte, trailer_section, ending, Head}
+use Rattle.bh_spec.specs.Items.{Item, interim_response, head, content_byte, trailer_section, ending}
 use Rattle.bh_spec.specs.Readers.{Moves}
 use Rattle.bh_push.specs.Decoders.{Rest as rest_at}
 use Rattle.bh_push.specs.Pushes.{start_view, RefusesFirst, MissesAs}
 use Rattle.bh_push.specs.Hands.{Held, kind_of_head}
 use Rattle.bh_stream.specs.Decoding.{content_items}
 use Rattle.bh_stream.specs.declared.traits.Event.{Event}
-use Rattle.bh_stream.specs.declared.traits.Event.TheVariants.{Interim, Head as IsHead, Trailers}
+use Rattle.bh_reading.specs.Handing.{ShowsAs}
 
 -- the decoder, and the kind, the field lines and the content of what was handed out
 pub record Counted : Type 0 where
@@ -90,9 +89,7 @@ pub record IsReady (v : Counted) : Type 0 where
 
 -- the item of an event, as the decoder shows it
 abbrev pub shows : Counted → Event → Item → Type 0
-shows v (Interim status) item = (fields : List Field) × (item ≡ interim_response status fields) × (v.held.lines ≡ Some fields)
-shows v IsHead item = (of : Head) × (fields : List Field) × (item ≡ head of fields) × (v.held.head ≡ Some of) × (v.held.lines ≡ Some fields)
-shows v Trailers item = (fields : List Field) × (item ≡ trailer_section fields) × (v.held.lines ≡ Some fields)
+shows v event item = ShowsAs v.held.head v.held.lines event item
 
 abbrev pub refuses : Counted → List ℕ → Refusal → Type 0
 refuses v piece r = RefusesFirst v.held.decoder piece r

@@ -2,9 +2,11 @@
 #![tactic(auto)]
 
 mod checking;
+mod handing;
 mod reading;
 #[cfg(test)]
 mod tests;
 
 pub use checking::check;
+pub use handing::Hands;
 pub use reading::Reading;

@@ -6,8 +6,9 @@ ghost use Rattle.bh_stream.specs.Decoding.{IsPushed};
 ghost use Rattle.bh_reading.specs.Places.{IsRightBehind};
 ghost use Rattle.bh_reading.specs.Readings.{IsAtStart, IsReady, Moved, count, limits, rest, shows, refuses};
 
+use crate::Hands;
 use bh_base::NoMemory;
-use bh_model::{Kind, Limits, Refusal, Summary};
+use bh_model::{ControlView, Fields, Kind, Limits, Refusal, Summary};
 use bh_push::{Decoder, Pushed as Handed};
 use bh_stream::{Decode, Event, Pushed};
 use std::alloc::Global;
@@ -166,4 +167,24 @@ impl Decode for Reading {
     }
 
     ghost laws = { reading_laws };
+}
+
+impl Hands for Reading {
+    ghost head = { λ v. v.held.head };
+
+    ghost lines = { λ v. v.held.lines };
+
+    fn control(&self) -> Option<ControlView<'_>> {
+        self.decoder.control()
+    }
+
+    fn status(&self) -> Option<u16> {
+        self.decoder.status()
+    }
+
+    fn fields(&self) -> &Fields {
+        self.decoder.fields()
+    }
+
+    ghost shows_are = { λ v event item shown. shown };
 }

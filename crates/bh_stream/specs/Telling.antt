@@ -40,11 +40,16 @@ abbrev pub TellsOf : {M A R S : Type 0} → (M → Text → Type 0) → (M → L
 TellsOf spelled output limit Right port s r t = IfSome (port.left s)
     (λ input. Tells spelled output limit Right r input (port.left t) (port.sent s) (port.sent t))
 
--- Of such a port: whatever the answer for the input is, the call ended with it where no fault was counted.
+-- Whatever the answer for the input is, a call with these counts of faults before and now ended with it where no fault was counted.
+abbrev pub Completes : {X A R : Type 0} → (List ℕ → X → Type 0) → (X → ℕ → End A R) → End A R → List ℕ
+    → (reads_before reads_now writes_before writes_now : ℕ) → Type 0
+Completes {X} IsAnswerFor end_of r input reads_before reads_now writes_before writes_now = (answer : X) → IsAnswerFor input answer
+    → (Rose reads_before reads_now → ⊥) → (Rose writes_before writes_now → ⊥) → r ≡ end_of answer (length input)
+
+-- So did a call of such a port.
 abbrev pub CompletesAs : {X A R S : Type 0} → (List ℕ → X → Type 0) → (X → ℕ → End A R) → Meanings S → S → End A R → S → Type 0
-CompletesAs {X} IsAnswerFor end_of port s r t = IfSome (port.left s) (λ input. (answer : X) → IsAnswerFor input answer
-    → (Rose (port.read_faults s) (port.read_faults t) → ⊥) → (Rose (port.write_faults s) (port.write_faults t) → ⊥)
-    → r ≡ end_of answer (length input))
+CompletesAs IsAnswerFor end_of port s r t = IfSome (port.left s) (λ input. Completes IsAnswerFor end_of r input
+    (port.read_faults s) (port.read_faults t) (port.write_faults s) (port.write_faults t))
 
 -- ---- faults
 

@@ -1,6 +1,7 @@
 -- All that is said of a translation from HTTP/1.1, by what the loop did: for a decoder that knows HTTP/1.1, and a job that owes canonical
 -- texts.
-use Rattle.std.proofs.Common.{◌≡◌, ◌≤◌, ◌<◌, ◌+◌, ◌⊎◌, arith, ℕ, zero, suc, Bool, true, List, [], ◌∷◌, ◌++◌, length, take, drop, take-append-drop, replicate, length-replicate, Option, Some, None, refl, sym, ap, subst, ◌∙◌, append-nil, append_assoc, length-append, inl, inr}
+use Rattle.std.proofs.Common.{◌≡◌, ◌≤◌, ◌<◌, ◌+◌, ◌⊎◌, arith, ℕ, zero, suc, Bool, true, List, [], ◌∷◌, ◌++◌, length, take, drop, take-append-drop, replicate, Option, Some, None, refl, sym, ap, subst, ◌∙◌, append-nil, append_assoc, length-append, inl, inr}
+use Rattle.std.proofs.lemmas.List.{length-replicate}
 use Rattle.std.specs.Io.KnownBytes.{IsAtEnd}
 use Rattle.bh_spec.specs.declared.H1Why.{H1Why}
 use Rattle.bh_spec.specs.declared.H1Why.TheVariants as why
@@ -18,7 +19,6 @@ use Rattle.bh_base.specs.Steps.{Step, Entry, Meanings, taken, given, met, IsQuie
 use Rattle.bh_model.specs.Ranges.{AreLimits}
 use Rattle.bh_stream.specs.Outputs.{written}
 use Rattle.bh_stream.specs.Logs.{HasBody, IsClose, GivesFront, ReadsTo, AtEvery, KeepsUp}
-use Rattle.bh_stream.specs.Decoding.{DecoderLaws}
 use Rattle.bh_stream.specs.Messages.{Spelled, items_in}
 use Rattle.bh_stream.specs.Jobs.{Owing}
 use Rattle.bh_stream.specs.Formats.{Knows, ShowsContent, GivesAlways}
@@ -32,13 +32,14 @@ use Rattle.bh_stream.proofs.Formats.{gives_always, gives_for, keeps_up, keeps_sa
 use Rattle.bh_stream.proofs.Telling.{AreAlike, front_alike, close_alike, port_tells}
 use Rattle.h1_spec.specs.declared.Scheme1.{Scheme1}
 use Rattle.h1_spec.specs.Http1.{IsHttp1}
-use Rattle.h1_spec.specs.Translation.{FromAnswer, read, broken, IsFromAnswer}
+use Rattle.h1_spec.specs.Translation.{FromAnswer, read, broken, OfFirst, IsFromAnswer}
 use Rattle.h1_spec.specs.BodyStates.{start as body_start}
 use Rattle.h1_spec.specs.Framing.{framing}
 use Rattle.h1_spec.specs.Marks.{IsSomeMarked}
 use Rattle.h1_spec.proofs.OneAnswer.{one_from}
 use Rattle.h1_read.specs.Places.{left_out}
-use Rattle.h1_read.specs.Readings.{View, rest, room, Moved, IsReady, Refuses, misses, tells}
+use Rattle.h1_read.specs.Readings.{View, rest, room, Moved, Refuses, misses, tells}
+use Rattle.h1_read.specs.ReadingLaws.{http1_reading_laws}
 use Rattle.h1_read.specs.Laws.{IsHttp1Text, IsDecidedAt, JudgesFrom}
 use Rattle.bh_translate.proofs.Schemes.{for_scheme}
 use Rattle.bh_translate.specs.From.{IsTextFrom, IsRead, IsBroken, FromEnds, IsRightFrom, from_end_of, FromPoint, FromFacts, from_called, from_end}
@@ -104,20 +105,20 @@ never_ended L limits scheme to_head front h = by_length (h long)
     long = replicate (limits.input + 1) 0
 
     too_many : IsWithin L.input (length (front ++ long)) → ⊥
-    too_many w = absurd (omega (arith, subst (λ (K : Bounds). IsWithin K.input (length (front ++ long))) limits.same w, length-append front long, length-replicate (limits.input + 1) 0))
+    too_many w = absurd (omega (arith, subst (λ (K : Bounds). IsWithin K.input (length (front ++ long))) limits.same w, length-append front long, length-replicate {A = ℕ} (limits.input + 1) 0))
 
     by_length : IsFromAnswer L scheme to_head (front ++ long) (broken why.Ended) → ⊥
     by_length (inl a) = too_many a.0
     by_length (inr a) = by_first a.2
       where
-        by_first : _ → ⊥
+        by_first : OfFirst L scheme to_head (take a.0 (front ++ long)) why.Ended → ⊥
         by_first (inl b) = b.0 refl
-        by_first (inr b) = absurd cc
+        by_first (inr b) = let two = b.0 in absurd cc
 
 same_message : (m n : Message) → read m ≡ read n → m ≡ n
 same_message m n e = cc
 
-module _ (L : Bounds) (limits : AreLimits L) (scheme : Scheme1) (to_head : Bool) (v : View) (owed : Owing) (laws : DecoderLaws rest room Moved IsReady)
+module _ (L : Bounds) (limits : AreLimits L) (scheme : Scheme1) (to_head : Bool) (v : View) (owed : Owing)
     (knows : Knows (IsHttp1Text L scheme to_head) items_in (λ s. canon s.message) L.input rest room v owed) (judges : JudgesFrom L scheme to_head v) where
   spelled : (m : Message) (t : Text) → IsTextFrom L scheme to_head m t → (s : Spelled) × IsHttp1Text L scheme to_head s t × (canon s.message ≡ canon m)
   spelled m t h = (
@@ -143,7 +144,7 @@ module _ (L : Bounds) (limits : AreLimits L) (scheme : Scheme1) (to_head : Bool)
   is_read : (s : Summary) (steps : List Step) → IsDone rest Moved tells v owed s steps → IsRead L scheme to_head s steps
   is_read s steps h =
       let told = judges.told h.state (taken steps) h.items h.omitted h.padding s h.moved h.whole h.told in
-      let residual = (laws.leads v h.state (taken steps) h.items h.moved).residual in
+      let residual = (http1_reading_laws.leads v h.state (taken steps) h.items h.moved).residual in
       let text = residual.text ++ [] in
       let own = knows.alone (h.items ++ ending h.omitted h.padding ∷ []) text (residual.back (ending h.omitted h.padding ∷ []) [] h.whole) in
       let bytes : bytes_of text ≡ taken steps = ap bytes_of (append-nil residual.text) ∙ residual.same in
@@ -185,8 +186,8 @@ module _ (L : Bounds) (limits : AreLimits L) (scheme : Scheme1) (to_head : Bool)
     pub from_facts : (s t : S) (r : End Summary H1Why) → Streams rest room Moved Refuses tells misses true 8191 read_step write_step v owed s r t
         → FromFacts L scheme to_head read_step write_step (record { left = left; sent = sent; read_faults = read_faults; write_faults = write_faults }) log s r t
     from_facts s t r h =
-        let gives = gives_for (IsTextFrom L scheme to_head) canon spelled some_text h.steps (gives_always knows laws h) in
-        let keeps = keeps_same (IsSomeMarked L to_head) (SomeOf (IsHttp1Text L scheme to_head)) any_text marked_text (HasBody (IsMessageText L)) 16383 8191 h.steps (keeps_up knows laws (HasBody (IsMessageText L)) shows h) in
+        let gives = gives_for (IsTextFrom L scheme to_head) canon spelled some_text h.steps (gives_always knows http1_reading_laws h) in
+        let keeps = keeps_same (IsSomeMarked L to_head) (SomeOf (IsHttp1Text L scheme to_head)) any_text marked_text (HasBody (IsMessageText L)) 16383 8191 h.steps (keeps_up knows http1_reading_laws (HasBody (IsMessageText L)) shows h) in
         let call : PortCall L.input (GivesAlways (IsTextFrom L scheme to_head) canon L.input) (FromEnds L scheme to_head) read_step write_step h.steps s r t =
         port_call (FromEnds L scheme to_head) knows.limit_is h gives (ends_as r h.steps h.outcome) in
         record {

@@ -2,19 +2,16 @@
 use Rattle.std.proofs.Common.{◌≡◌, ℕ, Bool, true, false, List, [], Option, refl, sym, ap, subst, ◌∙◌}
 use Rattle.std.specs.Io.KnownBytes.{IsAtEnd}
 use Rattle.bh_spec.specs.declared.H1Why.{H1Why}
-use Rattle.bh_spec.specs.declared.Omitted.{Omitted}
-use Rattle.bh_spec.specs.declared.Omitted.TheVariants.{Nothing}
 use Rattle.bh_spec.specs.declared.Summary.{Summary}
 use Rattle.bh_spec.specs.Bounds.{Bounds}
-use Rattle.bh_spec.specs.Messages.{Field}
 use Rattle.bh_spec.specs.Texts.{Text, bytes_of}
 use Rattle.bh_spec.specs.Viable.{IsMessageText}
 use Rattle.bh_spec.specs.Canonical.{canon}
 use Rattle.bh_spec.specs.Items.{Item}
 use Rattle.bh_base.specs.Steps.{Step, Entry, ReadFacts, WriteFacts, ReadLeaves, WriteLeaves}
 use Rattle.bh_model.specs.Ranges.{AreLimits}
+use Rattle.bh_stream.specs.Outputs.{written}
 use Rattle.bh_stream.specs.Logs.{HasBody}
-use Rattle.bh_stream.specs.Decoding.{DecoderLaws}
 use Rattle.bh_stream.specs.Formats.{Knows, ShowsContent}
 use Rattle.bh_stream.specs.Messages.{Spelled, items_in}
 use Rattle.bh_stream.specs.Runs.{Streams}
@@ -24,44 +21,29 @@ use Rattle.bh_reading.proofs.Coming.{items_come}
 use Rattle.bh_canonical.specs.Owed.{message_owed}
 use Rattle.bh_canonical.specs.Writers.{Writing, before_all, owed, takes}
 use Rattle.bh_canonical.proofs.Owes.{IsLeftOut, owes_items, shows_items}
-use Rattle.h1_spec.specs.declared.Framing1.{Framing1}
-use Rattle.h1_spec.specs.declared.Framing1.TheVariants.{Empty, Counted, Chunked, ToEnd}
 use Rattle.h1_spec.specs.declared.Scheme1.{Scheme1}
-use Rattle.h1_spec.specs.BodyStates.{start as body_start}
-use Rattle.h1_spec.specs.Bodies.{IsBody}
-use Rattle.h1_spec.specs.Cleaning.{hops, clean_trailers}
-use Rattle.h1_spec.specs.Framing.{framing}
 use Rattle.h1_spec.proofs.Valid.{read_is_valid}
-use Rattle.h1_read.specs.Places.{left_out}
-use Rattle.h1_read.specs.Readings.{View, rest, room, Moved, IsReady, Refuses, misses, tells, IsAtStart}
-use Rattle.h1_read.specs.Laws.{IsHttp1Text, KnowsHttp1, JudgesAsFrom}
+use Rattle.h1_read.specs.Readings.{View, rest, room, Moved, Refuses, misses, tells, IsAtStart}
+use Rattle.h1_read.specs.Laws.{IsHttp1Text}
+use Rattle.h1_read.proofs.AtStart.{left_out_is_empty, knows_http1}
+use Rattle.h1_read.proofs.Judging.{judges_as_from}
 use Rattle.bh_translate.specs.From.{FromFacts}
 use Rattle.bh_translate.proofs.FromFacts.{from_facts}
 
--- a body whose trailer section is left out has none
-no_trailers : (L : Bounds) (f : Framing1) (content : List ℕ) (trailers : List Field) (bytes : List ℕ) → IsBody L f content trailers bytes → (left_out (body_start f) ≡ Nothing → ⊥) → trailers ≡ []
-no_trailers L Empty content trailers bytes h some = h.1
-no_trailers L (Counted n) content trailers bytes h some = h.1
-no_trailers L Chunked content trailers bytes h some = absurd (some refl)
-no_trailers L ToEnd content trailers bytes h some = h.0
-
 module _ (L : Bounds) (limits : AreLimits L) (scheme : Scheme1) (to_head : Bool) where
   is_left_out : (s : Spelled) (t : Text) → IsHttp1Text L scheme to_head s t → IsLeftOut s.message s.omitted
-  is_left_out s t h some =
-      let whole = h.marked.whole in
-      whole.cleaned ∙ ap (clean_trailers (hops whole.head.fields))
-      (no_trailers L (framing to_head whole.head) s.message.content whole.trailers whole.text.3.1 whole.text.3.3 (λ e. some (h.omitted ∙ e)))
+  is_left_out s t h = left_out_is_empty L scheme to_head s t h
 
   -- the writer at the start owes the canonical text, of which each front shows the content that it has
-  owes : (s : Spelled) (t : Text) → IsHttp1Text L scheme to_head s t → _
+  owes : (s : Spelled) (t : Text) → IsHttp1Text L scheme to_head s t → written (message_owed false (items_in s)) ≡ canon s.message
   owes s t h = owes_items s.message s.omitted s.padding (is_left_out s t h)
 
   shows : ShowsContent (IsHttp1Text L scheme to_head) items_in (HasBody (IsMessageText L)) (message_owed false)
   shows s t h = shows_items L limits s.message (read_is_valid L h.marked.scheme to_head s.message (bytes_of t) h.marked.whole) h.marked.whole.fits s.omitted s.padding (is_left_out s t h)
 
-  module _ (v : View) (start : IsAtStart L scheme to_head v) (knows_law : KnowsHttp1) (judges_law : JudgesAsFrom) (laws : DecoderLaws rest room Moved IsReady) where
+  module _ (v : View) (start : IsAtStart L scheme to_head v) where
     knows : Knows (IsHttp1Text L scheme to_head) items_in (λ s. canon s.message) L.input rest room v (message_owed false)
-    knows = knows_law L scheme to_head v limits start canon (message_owed false) owes
+    knows = knows_http1 L scheme to_head v limits start canon (message_owed false) owes
 
     -- what comes is what the writer takes
     pub from_comes : (w : Writing) → w ≡ before_all → (q : List Item) (t : Text) → rest v q t → takes w q
@@ -81,5 +63,5 @@ module _ (L : Bounds) (limits : AreLimits L) (scheme : Scheme1) (to_head : Bool)
       pub from_at : (w : Writing) → w ≡ before_all → (s t : S) (r : End Summary H1Why) → Streams rest room Moved Refuses tells misses true 8191 read write v (owed w) s r t
           → FromFacts L scheme to_head read write (record { left = left; sent = sent; read_faults = read_faults; write_faults = write_faults }) log s r t
       from_at w at s t r h =
-          from_facts L limits scheme to_head v (message_owed false) laws knows (judges_law L scheme to_head v limits start) shows read_law ended_law write_law read_leaves write_leaves s t r
+          from_facts L limits scheme to_head v (message_owed false) knows (judges_as_from L scheme to_head v limits start) shows read_law ended_law write_law read_leaves write_leaves s t r
           (subst (λ (x : Writing). Streams rest room Moved Refuses tells misses true 8191 read write v (owed x) s r t) at h)

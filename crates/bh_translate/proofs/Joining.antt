@@ -11,9 +11,10 @@ use Rattle.h1_spec.specs.declared.Framing1.TheVariants.{Empty, Counted, Chunked,
 use Rattle.h1_spec.specs.Cleaning.{hops, clean_trailers}
 use Rattle.h1_spec.specs.Http1Text.{Case, of_interim, of_head}
 use Rattle.h1_spec.specs.Moments.{announced, of_byte, of_trailers, of_end, alone, cases_at}
+use Rattle.h1_spec.specs.Http1.{start_of}
 use Rattle.h1_spec.proofs.Cases.{AreFree, none_free, free_append}
 use Rattle.h1_moments.specs.Seen.{Seen, interims_seen, head_seen, start_with, see, seen_behind, moments_of, moments_in}
-use Rattle.h1_judge.specs.Courses.{Course, start_of, behind_item, behind, item_cases, AreFree as Free}
+use Rattle.h1_judge.specs.Courses.{Course, behind_item, behind, item_cases, AreFree as Free}
 
 -- ---- what is known of a body
 

@@ -2,11 +2,13 @@
 #![tactic(auto)]
 
 mod from;
+#[cfg(test)]
+mod from_tests;
 mod into;
 mod laws;
 #[cfg(test)]
 mod tests;
 
-pub use from::FromEnd;
+pub use from::{FromEnd, from_http1};
 pub use into::{IntoEnd, to_http1};
 pub use laws::the_text_is_sent;

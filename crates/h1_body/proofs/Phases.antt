@@ -1,11 +1,12 @@
 -- What the phases of a reader of content do with bytes.
-use Rattle.std.proofs.Common.{◌≡◌, ◌⊎◌, ◌<◌, ◌+◌, ◌-◌, min, arith, ℕ, zero, suc, List, [], ◌∷◌, ◌++◌, length, take, drop, Some, None, refl, sym, ap, subst, ◌∙◌, append-nil, inl, inr}
+use Rattle.std.proofs.Common.{Bool, true, false, cond, ◌≡◌, ◌⊎◌, ◌<◌, ◌+◌, ◌-◌, min, arith, ℕ, zero, suc, List, [], ◌∷◌, ◌++◌, length, take, drop, Some, None, refl, sym, ap, subst, ◌∙◌, append-nil, inl, inr}
 use Rattle.std.proofs.lemmas.Bool.{cases_lt}
 use Rattle.std.proofs.lemmas.List.{take-append-drop, length-take-le}
 use Rattle.bh_spec.specs.Bounds.{Bounds}
 use Rattle.h1_spec.specs.declared.Framing1.TheVariants.{Chunked}
 use Rattle.bh_spec.specs.declared.H1Why.{H1Why}
 use Rattle.bh_spec.specs.declared.H1Why.TheVariants as why
+use Rattle.h1_spec.specs.Bodies.{is_hex}
 use Rattle.h1_spec.specs.ChunkStates.{InLine, next_state, line_ended}
 use Rattle.h1_spec.proofs.ChunkLines.{IsFew}
 use Rattle.h1_spec.specs.BodyStates.{At, start, in_count, in_line, in_chunk, behind_chunk, behind_cr, OfRest, nothing_behind, Moves}
@@ -206,3 +207,15 @@ chunking_ends phase c e = subst IsChunking e c
 
 pub awaits : (v w : At) (x : List ℕ) → Becomes v x [] w → AwaitsMore w [] → AwaitsMore v x
 awaits v w x b a L = subst (λ (z : List ℕ). OfRest L nothing_behind v z why.Ended) (append-nil x) ((b L).causes [] why.Ended (a L))
+
+-- that is no want of bytes
+pub why_not_end : (line : Line) (b : ℕ) → why_not line b ≡ why.Ended → ⊥
+why_not_end (lines.Digits count number) b e = by_test (is_hex b) e
+  where
+    by_test : (test : Bool) → cond test why.ChunkLineLimit why.ChunkLine ≡ why.Ended → ⊥
+    by_test true e = absurd (cc)
+    by_test false e = absurd (cc)
+why_not_end (lines.Blanks own) b e = absurd (cc)
+why_not_end (lines.Extension own) b e = absurd (cc)
+why_not_end (lines.BehindCr own) b e = absurd (cc)
+why_not_end (lines.Ended own) b e = absurd (cc)

@@ -3,6 +3,7 @@ use Rattle.std.proofs.Common.{◌≡◌, ◌⊎◌, ◌<◌, ◌≤◌, ◌+◌,
 use Rattle.std.proofs.lemmas.List.{length-append, length-drop, take_more, take-append-drop}
 use Rattle.std.proofs.Math.Seq.{take-length, take-append_seam}
 use Rattle.bh_spec.specs.declared.H1Why.{H1Why}
+use Rattle.bh_spec.specs.declared.H1Why.TheVariants as why
 use Rattle.h1_spec.specs.BodyStates.{At, to_end, OfRest, nothing_behind, Moves}
 use Rattle.h1_body.specs.declared.content.Phase.{Phase}
 use Rattle.h1_body.specs.declared.content.Phase.TheVariants as phases
@@ -46,8 +47,9 @@ content_says v w u piece bytes i h b r = record {
     all (inl e) = inl (omega (arith, e, left, h))
     all (inr n) = inr n
 
-pub refused_says : (v w : At) (piece : List ℕ) (i : ℕ) (cause : H1Why) → i < length piece → Becomes v (take i piece) [] w → AwaitsMore w [] → Refuses w (get_or piece i 0) cause → IsRefused v piece cause
-refused_says v w piece i cause h b a r = record {
+pub refused_says : (v w : At) (piece : List ℕ) (i : ℕ) (cause : H1Why) → i < length piece → Becomes v (take i piece) [] w → AwaitsMore w [] → Refuses w (get_or piece i 0) cause → (cause ≡ why.Ended → ⊥)
+    → IsRefused v piece cause
+refused_says v w piece i cause h b a r n = record {
   at = i;
   behind = w;
   inside = h;
@@ -57,6 +59,7 @@ refused_says v w piece i cause h b a r = record {
       let shape : take (i + 1) piece ++ after ≡ take i piece ++ (get_or piece i 0 ∷ after) =
       ap (λ (z : List ℕ). z ++ after) (take_more piece i 0 h) ∙ append_assoc (take i piece) (get_or piece i 0 ∷ []) after in
       subst (λ (z : List ℕ). OfRest L nothing_behind v z cause) (sym shape) ((b L).causes (get_or piece i 0 ∷ after) cause (r L after));
+  not_end = n;
 }
 
 pub all_taken : (piece : List ℕ) (i : ℕ) → i ≤ length piece → length piece ≤ i → take i piece ≡ piece

@@ -1,19 +1,19 @@
 -- A reader of a whole body: its content and its trailer section, one behind the other.
-use Rattle.std.proofs.Common.{◌≡◌, ◌⊎◌, ◌+◌, arith, Bool, true, false, ℕ, List, [], ◌++◌, take, drop, refl, sym, ap, subst, ◌∙◌, append_assoc, inl, inr}
+use Rattle.std.proofs.Common.{◌≡◌, ◌⊎◌, ◌+◌, ◌-◌, arith, Bool, true, false, ℕ, List, [], ◌++◌, take, drop, refl, sym, ap, subst, ◌∙◌, append_assoc, inl, inr}
 use Rattle.std.proofs.lemmas.List.{take-append-drop, length-drop}
 use Rattle.std.proofs.Math.Seq.{take-add}
 use Rattle.bh_spec.specs.Bounds.{Bounds}
 use Rattle.bh_spec.specs.Messages.{Field}
 use Rattle.bh_spec.specs.declared.H1Why.{H1Why}
 use Rattle.bh_spec.specs.declared.H1Why.TheVariants as why
-use Rattle.h1_spec.specs.BodyStates.{At, to_end, in_trailers, over, OfRest, nothing_behind, Moves, IsRefusedFrom}
+use Rattle.h1_spec.specs.BodyStates.{At, to_end, in_trailers, over, trailers_of, OfRest, nothing_behind, Moves, IsRefusedFrom}
 use Rattle.h1_body.specs.declared.content.Phase.{Phase}
 use Rattle.h1_body.specs.declared.content.Phase.TheVariants as phases
 use Rattle.h1_body.specs.declared.content.Pushed.TheVariants as pushed
 use Rattle.h1_body.specs.declared.trailers.TrailerStep.TheVariants as trailer
 use Rattle.h1_body.specs.declared.reader.BodyStep.TheVariants as steps
 use Rattle.h1_body.specs.Contents.{at_of, IsReading, IsRefused, Says}
-use Rattle.h1_body.specs.Trailers.{SaysTrailers}
+use Rattle.h1_body.specs.Trailers.{SaysTrailers, IsEnded}
 use Rattle.h1_body.specs.Readers.{trailers_at, place_of, SaysBody}
 use Rattle.h1_spec.proofs.BodySteps.{moves_on}
 
@@ -56,6 +56,7 @@ content_refused section v p piece cause e h = subst (λ (z : At). IsRefusedFrom 
   none = λ L l. h.none L;
   before = λ L l. h.before L;
   decided = λ L l. h.decided L;
+  not_end = h.not_end;
 })
 
 -- ---- the trailer section, behind so many bytes of the piece
@@ -89,10 +90,30 @@ behind_refused section v p q piece taken cause e h t = subst (λ (z : At). IsRef
       subst (λ (z : List ℕ). OfRest L nothing_behind (at_of p) z cause)
       (sym (ap (λ (z : List ℕ). z ++ after) shape ∙ append_assoc (take taken piece) (take (t.at + 1) (drop taken piece)) after))
       ((first L).causes (take (t.at + 1) (drop taken piece) ++ after) cause (t.decided L l after));
+  not_end = t.not_end;
 })
   where
     first : (L : Bounds) → Moves L (at_of p) (take taken piece) [] (in_trailers [])
     first L = subst (λ (z : At). Moves L (at_of p) (take taken piece) [] z) h.1 (h.2 L)
+
+ended_behind : (section : ℕ) (p q : Phase) (piece : List ℕ) (taken more : ℕ) (lines : List Field) → Says (at_of p) piece (pushed.Trailers taken) (at_of q)
+    → IsEnded section (in_trailers []) (drop taken piece) more lines → IsEnded section (at_of p) piece (taken + more) lines
+ended_behind section p q piece taken more lines h t = record {
+  some = omega (arith, t.some);
+  behind = t.behind;
+  none = λ L l.
+      subst (λ (z : List ℕ). Moves L (at_of p) z [] t.behind) (sym front)
+      (moves_on L (at_of p) (in_trailers []) t.behind (take taken piece) (take (more - 1) (drop taken piece)) [] [] (first L) (t.none L l));
+  before = λ L l. subst (λ (z : List ℕ). OfRest L nothing_behind (at_of p) z why.Ended) (sym front) ((first L).causes (take (more - 1) (drop taken piece)) why.Ended (t.before L l));
+  bytes = t.bytes;
+  read = t.read;
+}
+  where
+    first : (L : Bounds) → Moves L (at_of p) (take taken piece) [] (in_trailers [])
+    first L = subst (λ (z : At). Moves L (at_of p) (take taken piece) [] z) h.1 (h.2 L)
+
+    front : take (taken + more - 1) piece ≡ take taken piece ++ take (more - 1) (drop taken piece)
+    front = ap (λ (n : ℕ). take n piece) (omega (arith, t.some)) ∙ take-add taken (more - 1) piece
 
 pub behind_whole : (section : ℕ) (v w : At) (p q : Phase) (piece : List ℕ) (taken more : ℕ) (lines : List Field) → v ≡ at_of p → Says (at_of p) piece (pushed.Trailers taken) (at_of q)
     → SaysTrailers section [] (drop taken piece) (trailer.Whole more) lines → w ≡ over lines → SaysBody section v piece (steps.Whole (taken + more)) w
@@ -104,12 +125,15 @@ behind_whole section v w p q piece taken more lines e h t f = (
       let both = moves_on L (at_of p) (in_trailers []) (over lines) (take taken piece) (take more (drop taken piece)) [] [] first (t.1 L l) in
       subst (λ (z : At). Moves L z (take (taken + more) piece) [] w) (sym e) (subst (λ (z : At). Moves L (at_of p) (take (taken + more) piece) [] z) (sym f)
       (subst (λ (z : List ℕ). Moves L (at_of p) z [] (over lines)) (sym (take-add taken more piece)) both)),
+  subst (λ (z : At). IsEnded section z piece (taken + more) (trailers_of w)) (sym e)
+  (subst (λ (z : At). IsEnded section (at_of p) piece (taken + more) (trailers_of z)) (sym f) (ended_behind section p q piece taken more lines h t.2)),
 )
 
 pub whole_at : (section : ℕ) (v w : At) (seen piece : List ℕ) (taken : ℕ) (lines : List Field) → v ≡ in_trailers seen → SaysTrailers section seen piece (trailer.Whole taken) lines → w ≡ over lines
     → SaysBody section v piece (steps.Whole taken) w
 whole_at section v w seen piece taken lines e t f =
-    (t.0, (lines, f), λ L l. subst (λ (z : At). Moves L z (take taken piece) [] w) (sym e) (subst (λ (z : At). Moves L (in_trailers seen) (take taken piece) [] z) (sym f) (t.1 L l)))
+    (t.0, (lines, f), λ L l. subst (λ (z : At). Moves L z (take taken piece) [] w) (sym e) (subst (λ (z : At). Moves L (in_trailers seen) (take taken piece) [] z) (sym f) (t.1 L l)),
+    subst (λ (z : At). IsEnded section z piece taken (trailers_of w)) (sym e) (subst (λ (z : At). IsEnded section (in_trailers seen) piece taken (trailers_of z)) (sym f) t.2))
 
 pub need_at : (section : ℕ) (v w : At) (seen piece : List ℕ) (lines : List Field) → v ≡ in_trailers seen → SaysTrailers section seen piece trailer.Need lines → w ≡ in_trailers (seen ++ piece)
     → SaysBody section v piece steps.Need w

@@ -1,6 +1,6 @@
 -- A reader is sound between calls.
 use Rattle.std.proofs.Common.{◌≡◌, ◌<◌, ◌+◌, arith, Bool, true, false, ℕ, List, length, subst, None, refl, sym, ap, ◌∙◌, [], inl, inr}
-use Rattle.std.proofs.lemmas.Bool.{eqb-false}
+use Rattle.std.proofs.lemmas.Bool.{eqb-false, false≢true}
 use Rattle.bh_spec.specs.Messages.{Field}
 use Rattle.bh_model.specs.Lines.{FieldsView}
 use Rattle.h1_spec.specs.BodyStates.{At, in_trailers, over, is_whole, may_end, trailers_of}
@@ -13,7 +13,7 @@ use Rattle.h1_body.specs.declared.content.Phase.{Phase}
 use Rattle.h1_body.specs.declared.content.Phase.TheVariants as phases
 use Rattle.h1_body.specs.declared.reader.BodyStep.{BodyStep}
 use Rattle.h1_body.specs.declared.reader.BodyStep.TheVariants as steps
-use Rattle.h1_body.specs.Readers.{place_of, IsOpenReader, IsUnfinished, SaysBody, KnownBody, IsSound, is_refused, AwaitsMoreWithin}
+use Rattle.h1_body.specs.Readers.{place_of, IsOpenReader, IsUnfinished, SaysBody, IsGoing, KnownBody, IsSound, is_refused, AwaitsMoreWithin}
 use Rattle.h1_body.specs.Lines.{state_of}
 use Rattle.h1_body.specs.Contents.{IsValid}
 use Rattle.h1_body.specs.Trailers.{IsReady}
@@ -48,6 +48,15 @@ sound_after (steps.Content taken bytes) most v piece phase ended section seen he
 sound_after (steps.Whole taken) most v piece phase ended section seen head spans fields says known =
     whole_sound phase ended section seen head spans fields (over_place phase ended seen fields.lines says.1.0 says.1.1) known
 sound_after (steps.Refused cause) most v piece phase ended section seen head spans fields says known = tt
+
+-- and no trailer section is over where more is needed
+pub going_after : (step : BodyStep) (phase : Phase) (ended : Bool) (section : ℕ) (seen : List ℕ) (head : ReaderView) (spans : ℕ) (fields : FieldsView)
+    → KnownBody step phase ended section seen head spans fields → IsGoing step (place_of phase ended seen fields.lines)
+going_after steps.Need phase ended section seen head spans fields known = λ lines e.
+    false≢true (sym known.0.not_ended ∙ (over_place phase ended seen fields.lines lines e).1)
+going_after (steps.Content taken bytes) phase ended section seen head spans fields known = tt
+going_after (steps.Whole taken) phase ended section seen head spans fields known = tt
+going_after (steps.Refused cause) phase ended section seen head spans fields known = tt
 
 unfinished_phase : (phase : Phase) (seen : List ℕ) (lines : List Field) → is_whole (place_of phase false seen lines) ≡ false → IsUnfinished phase
 unfinished_phase (phases.Count missing) seen lines e = inr (some missing (eqb-false missing 0 e))

@@ -1,8 +1,8 @@
 -- What the step of a head reader says of a trailer section.
-use Rattle.std.proofs.Common.{◌≡◌, ◌<◌, ◌≤◌, ◌+◌, ◌-◌, arith, ℕ, zero, suc, List, [], ◌++◌, length, take, drop, Some, sym, ap, subst, ◌∙◌, append_assoc, append-nil}
+use Rattle.std.proofs.Common.{◌≡◌, ◌<◌, ◌≤◌, ◌+◌, ◌-◌, arith, ℕ, zero, suc, List, [], ◌++◌, length, take, drop, Option, Some, sym, ap, subst, ◌∙◌, append_assoc, append-nil}
 use Rattle.std.proofs.Math.Seq.{take-append-add}
 use Rattle.std.proofs.lemmas.List.{length-append, length-take, length-take-le, take_all, take-take, take-append-le, take-append-drop}
-use Rattle.bh_spec.specs.Bounds.{Bounds}
+use Rattle.bh_spec.specs.Bounds.{Bounds, IsWithin}
 use Rattle.bh_spec.specs.Messages.{Field}
 use Rattle.bh_model.specs.Lines.{FieldsView}
 use Rattle.bh_spec.specs.declared.H1Why.TheVariants as why
@@ -12,8 +12,8 @@ use Rattle.h1_spec.specs.BodyCauses.{OfTrailers}
 use Rattle.h1_spec.specs.Heads.{HoldsNoEnd}
 use Rattle.h1_head.specs.Ends.{ReaderView, IsOpen, IsWhole, IsPast}
 use Rattle.h1_spec.specs.BodyStates.{in_trailers, over, OfRest, nothing_behind, Moves, IsRefusedFrom}
-use Rattle.h1_body.specs.Trailers.{IsReady}
-use Rattle.h1_spec.proofs.TrailerEnds.{none_front, none_before, trailers_on, trailers_unended, trailers_past, trailers_wrong, trailers_over}
+use Rattle.h1_body.specs.Trailers.{IsReady, IsEnded}
+use Rattle.h1_spec.proofs.TrailerEnds.{ends_later, none_front, none_before, trailers_on, trailers_unended, trailers_past, trailers_wrong, trailers_over}
 
 -- the bytes that were seen, the piece among them
 seen_on : (section : ℕ) (seen piece : List ℕ) (head : ReaderView) (spans : ℕ) (fields : FieldsView) → IsReady section seen head spans fields → head.seen ++ piece ≡ crlf ++ (seen ++ piece)
@@ -75,6 +75,7 @@ limit_says section seen piece head after spans fields r step = record {
       subst (λ (z : List ℕ). OfTrailers L nothing_behind z why.TrailerLimit) (append_assoc seen (take (at + 1) piece) more)
       (trailers_past L section (seen ++ take (at + 1) piece) more e full
       (subst HoldsNoEnd (step.seen ∙ ap (λ (n : ℕ). take n (head.seen ++ piece)) whole ∙ front ∙ sym (take_all (section + 2) (crlf ++ (seen ++ take (at + 1) piece)) exact)) step.none));
+  not_end = λ f. absurd (cc);
 }
   where
     long : length head.seen ≡ 2 + length seen
@@ -109,21 +110,28 @@ fits : (section taken : ℕ) (seen piece : List ℕ) (head after : ReaderView) (
 fits section taken seen piece head after spans fields r step =
     omega (arith, step.fits, r.limit, ap (length {A = ℕ}) r.seen_is, length-append seen (take taken piece), length-take-le taken piece step.within)
 
+-- the bytes before the last are too few
+last_missing : (section taken : ℕ) (seen piece : List ℕ) (head after : ReaderView) (spans : ℕ) (fields : FieldsView) → IsReady section seen head spans fields → IsWhole head piece taken after
+    → (L : Bounds) → L.section ≡ Some section → OfRest L nothing_behind (in_trailers seen) (take (taken - 1) piece) why.Ended
+last_missing section taken seen piece head after spans fields r step =
+    let some = ends_later head.seen piece taken r.none step.ends in
+    short_on section seen piece head spans fields (taken - 1) r
+    (none_before (head.seen ++ piece) (length head.seen + taken) (length head.seen + (taken - 1)) step.ends (omega (arith, some))) (omega (arith, some, step.fits, r.limit))
+
 pub wrong_says : (section taken : ℕ) (seen piece : List ℕ) (head after : ReaderView) (spans : ℕ) (fields : FieldsView) → IsReady section seen head spans fields → IsWhole head piece taken after
     → ((lines : List Field) → IsSection lines (seen ++ take taken piece) → ⊥) → IsRefusedFrom section (in_trailers seen) piece why.TrailerForm
 wrong_says section taken seen piece head after spans fields r step wrong = record {
   at = taken - 1;
   behind = in_trailers (seen ++ take (taken - 1) piece);
   none = λ L e. trailers_on L seen (take (taken - 1) piece);
-  inside = omega (arith, some taken step.ends, step.within);
-  before = short_on section seen piece head spans fields (taken - 1) r
-      (none_before (head.seen ++ piece) (length head.seen + taken) (length head.seen + (taken - 1)) step.ends (omega (arith, some taken step.ends)))
-      (omega (arith, some taken step.ends, step.fits, r.limit));
+  inside = omega (arith, ends_later head.seen piece taken r.none step.ends, step.within);
+  before = last_missing section taken seen piece head after spans fields r step;
   decided = λ L e more.
-      subst (λ (n : ℕ). OfTrailers L nothing_behind (seen ++ (take n piece ++ more)) why.TrailerForm) (omega (arith, some taken step.ends))
+      subst (λ (n : ℕ). OfTrailers L nothing_behind (seen ++ (take n piece ++ more)) why.TrailerForm) (omega (arith, ends_later head.seen piece taken r.none step.ends))
       (subst (λ (z : List ℕ). OfTrailers L nothing_behind z why.TrailerForm) (append_assoc seen (take taken piece) more)
       (trailers_wrong L section x rest more e (subst (λ (n : ℕ). EndsAt (crlf ++ (x ++ rest)) n) long (subst (λ (z : List ℕ). EndsAt z (length head.seen + taken)) bytes step.ends))
       (fits section taken seen piece head after spans fields r step) wrong));
+  not_end = λ f. absurd (cc);
 }
   where
     x : List ℕ
@@ -141,12 +149,18 @@ wrong_says section taken seen piece head after spans fields r step wrong = recor
     long : length head.seen + taken ≡ length x + 2
     long = omega (arith, ap (length {A = ℕ}) r.seen_is, length-append seen (take taken piece), length-take-le taken piece step.within)
 
-    -- the end isn't in what was seen before
-    some : (n : ℕ) → EndsAt (head.seen ++ piece) (length head.seen + n) → 0 < n
-    some zero ends = absurd (r.none (length head.seen) (subst EndsBlank (ap (λ (n : ℕ). take n (head.seen ++ piece)) (omega arith) ∙ take-append-le (length head.seen) head.seen piece (omega arith)) ends.ends))
-    some (suc n) ends = omega arith
-
 pub whole_says : (section taken : ℕ) (seen piece : List ℕ) (head after : ReaderView) (spans : ℕ) (fields : FieldsView) (lines : List Field) → IsReady section seen head spans fields → IsWhole head piece taken after
     → IsSection lines (seen ++ take taken piece) → (L : Bounds) → L.section ≡ Some section → Moves L (in_trailers seen) (take taken piece) [] (over lines)
 whole_says section taken seen piece head after spans fields lines r step h L e =
     trailers_over L section seen (take taken piece) lines e (fits section taken seen piece head after spans fields r step) h
+
+pub whole_ends : (section taken : ℕ) (seen piece : List ℕ) (head after : ReaderView) (spans : ℕ) (fields : FieldsView) (lines : List Field) → IsReady section seen head spans fields → IsWhole head piece taken after
+    → IsSection lines (seen ++ take taken piece) → IsEnded section (in_trailers seen) piece taken lines
+whole_ends section taken seen piece head after spans fields lines r step h = record {
+  some = ends_later head.seen piece taken r.none step.ends;
+  behind = in_trailers (seen ++ take (taken - 1) piece);
+  none = λ L e. trailers_on L seen (take (taken - 1) piece);
+  before = last_missing section taken seen piece head after spans fields r step;
+  bytes = seen ++ take taken piece;
+  read = λ L e. (subst (λ (o : Option ℕ). IsWithin o (length (seen ++ take taken piece))) (sym e) (fits section taken seen piece head after spans fields r step), h);
+}

@@ -144,6 +144,7 @@ pub record IsRefused (v : At) (piece : List ℕ) (cause : H1Why) : Type 0 where
   pub none : Becomes v (take at piece) [] behind
   pub before : AwaitsMore v (take at piece)
   pub decided : (L : Bounds) (after : List ℕ) → OfRest L nothing_behind v (take (at + 1) piece ++ after) cause
+  pub not_end : cause ≡ why.Ended → ⊥
 
 abbrev pub Says : At → List ℕ → Pushed → At → Type 0
 Says v piece pushed.Need w = Becomes v piece [] w × (((v ≡ to_end) × (piece ≡ [])) ⊎ AwaitsMore v piece)

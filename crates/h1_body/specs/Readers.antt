@@ -5,14 +5,14 @@ use Rattle.bh_spec.specs.Messages.{Field}
 use Rattle.bh_model.specs.Lines.{FieldsView}
 use Rattle.bh_spec.specs.declared.H1Why.TheVariants as why
 use Rattle.h1_head.specs.Ends.{ReaderView}
-use Rattle.h1_spec.specs.BodyStates.{At, to_end, in_trailers, over, OfRest, nothing_behind, Moves, IsRefusedFrom}
+use Rattle.h1_spec.specs.BodyStates.{At, to_end, in_trailers, over, trailers_of, OfRest, nothing_behind, Moves, IsRefusedFrom}
 use Rattle.h1_body.specs.declared.content.Phase.{Phase}
 use Rattle.h1_body.specs.declared.content.Phase.TheVariants as phases
 use Rattle.h1_body.specs.declared.reading.Reading.{Reading}
 use Rattle.h1_body.specs.declared.reader.BodyStep.{BodyStep}
 use Rattle.h1_body.specs.declared.reader.BodyStep.TheVariants as steps
 use Rattle.h1_body.specs.Contents.{at_of, IsValid, IsReading, IsContent}
-use Rattle.h1_body.specs.Trailers.{IsReady}
+use Rattle.h1_body.specs.Trailers.{IsReady, IsEnded}
 
 -- in the trailer section, or behind it
 abbrev pub trailers_at : Bool → List ℕ → List Field → At
@@ -46,8 +46,15 @@ SaysBody section v piece steps.Need w = (L : Bounds) → L.section ≡ Some sect
     → Moves L v piece [] w × (((v ≡ to_end) × (piece ≡ [])) ⊎ OfRest L nothing_behind v piece why.Ended)
 SaysBody section v piece (steps.Content taken bytes) w = IsContent v piece taken bytes.now w
 SaysBody section v piece (steps.Whole taken) w = (taken ≤ length piece) × ((lines : List Field) × (w ≡ over lines))
-    × ((L : Bounds) → L.section ≡ Some section → Moves L v (take taken piece) [] w)
+    × ((L : Bounds) → L.section ≡ Some section → Moves L v (take taken piece) [] w) × IsEnded section v piece taken (trailers_of w)
 SaysBody section v piece (steps.Refused cause) w = IsRefusedFrom section v piece cause
+
+-- Where no more can be said of the piece, no trailer section is over.
+abbrev pub IsGoing : BodyStep → At → Type 0
+IsGoing steps.Need w = (lines : List Field) → w ≡ over lines → ⊥
+IsGoing (steps.Content taken bytes) w = Unit {0}
+IsGoing (steps.Whole taken) w = Unit {0}
+IsGoing (steps.Refused cause) w = Unit {0}
 
 -- and what is known then
 abbrev pub KnownBody : BodyStep → Phase → Bool → ℕ → List ℕ → ReaderView → ℕ → FieldsView → Type 0

@@ -2,6 +2,7 @@
 ghost use Rattle.std.specs.Prelude.{◌≡◌, ◌<◌, ◌≤◌, ◌-◌, ◌↔◌, [], ◌∷◌, ℕ, List, IsTrue, IfSome, IfNone, length, take, min};
 ghost use Rattle.bh_spec.specs.Bounds.{Bounds};
 ghost use Rattle.h1_spec.specs.ChunkStates.{next_state};
+ghost use Rattle.bh_spec.specs.declared.H1Why.TheVariants as why;
 ghost use Rattle.h1_spec.specs.BodyStates.{OfRest, nothing_behind};
 ghost use Rattle.h1_body.specs.Lines.{state_of, IsSmall};
 ghost use Rattle.h1_body.specs.Contents.{at_of, IsValid, IsReading, IsBetween, IsChunking, phase_behind as line_behind, chunk_behind as run_behind, why_not as why_not_byte, Becomes, Says, KnownBehind, IsRun};
@@ -120,6 +121,7 @@ impl Content {
         ensures becomes { IfNone result (Becomes (at_of self.old.phase) (byte ∷ []) [] (at_of self.new.phase)) }
         ensures refused { IfSome result (λ cause. (L : Bounds) (after : List ℕ)
             → OfRest L nothing_behind (at_of self.old.phase) (byte ∷ after) cause) }
+        ensures not_end { IfSome result (λ cause. cause ≡ why.Ended → ⊥) }
     {
         match self.phase {
             Phase::Line { line, room } => {

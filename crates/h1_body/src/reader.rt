@@ -1,7 +1,7 @@
 //! A body, in pieces of any length.
 ghost use Rattle.std.specs.Prelude.{◌≡◌, IfOk, IsFalse, Some, None, true, false};
 ghost use Rattle.h1_spec.specs.BodyStates.{start, is_whole, may_end, trailers_of};
-ghost use Rattle.h1_body.specs.Readers.{SaysBody, is_refused, AwaitsMoreWithin};
+ghost use Rattle.h1_body.specs.Readers.{SaysBody, IsGoing, is_refused, AwaitsMoreWithin};
 
 use crate::reading::{Reading, first_phase};
 use bh_base::NoMemory;
@@ -63,6 +63,7 @@ impl BodyReader {
         requires unfinished { is_whole self.old.at ≡ false }
         ensures says { SaysBody self.old.section self.old.at piece.now result self.new.at }
         ensures refused { self.new.refused ≡ is_refused result }
+        ensures going { IsGoing result self.new.at }
         ensures section { self.new.section ≡ self.old.section }
     {
         let step = self.reading.push(piece);

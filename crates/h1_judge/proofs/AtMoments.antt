@@ -8,7 +8,8 @@ use Rattle.h1_spec.specs.declared.Framing1.TheVariants.{Empty, Counted, Chunked,
 use Rattle.h1_spec.specs.Cleaning.{hops, clean_trailers}
 use Rattle.h1_spec.specs.Http1Text.{Case}
 use Rattle.h1_spec.specs.Moments.{interim_ended, head_ended, content_read, trailers_ended, input_ended, announced, of_byte, of_trailers, of_end, first_of, form_at}
-use Rattle.h1_judge.specs.Courses.{start_of, counted_more, Course, behind, item_form}
+use Rattle.h1_spec.specs.Http1.{start_of}
+use Rattle.h1_judge.specs.Courses.{counted_more, Course, behind, item_form}
 
 -- behind this head and so many bytes of content
 abbrev pub at_content : Bool → Start → List Field → ℕ → Course

@@ -21,10 +21,11 @@ use Rattle.h1_spec.specs.declared.Framing1.{Framing1}
 use Rattle.h1_spec.specs.declared.Framing1.TheVariants as framings
 use Rattle.h1_spec.specs.Http1Text.{Case, has_bad_value}
 use Rattle.h1_spec.specs.Moments.{announced, of_trailers, first_of}
+use Rattle.h1_spec.specs.Http1.{start_of}
 use Rattle.h1_head.specs.Room.{room_in, count_in}
 use Rattle.h1_judge.specs.declared.judged.IntoWhy.TheVariants as why
 use Rattle.h1_judge.specs.declared.judging.Judge.{Judge}
-use Rattle.h1_judge.specs.Courses.{start_of, own_fields, cleaned_item, cleaned_items, Course, behind_item, item_form}
+use Rattle.h1_judge.specs.Courses.{own_fields, cleaned_item, cleaned_items, Course, behind_item, item_form}
 use Rattle.h1_judge.specs.Views.{JudgedView, rest, limits, Prompt, Moved, IsFitting, IsReady, shows, IsRefused, IsJudged, AreContent}
 use Rattle.h1_judge.specs.Judges.{course_of, view_of, HasRoom, KeepsRoom, IsCounting, IsSound, HasRoomFor, Judges, IsShort, IsLastJudged, AreCounted, Leaves, IsShown}
 use Rattle.h1_judge.specs.JudgedLaws.{cleaned-content, alive_there, judged_laws}

@@ -8,10 +8,11 @@ use Rattle.bh_model.specs.Values.{status_in}
 use Rattle.h1_spec.specs.declared.Framing1.{Framing1}
 use Rattle.h1_spec.specs.Cleaning.{hops}
 use Rattle.h1_spec.specs.Moments.{announced}
+use Rattle.h1_spec.specs.Http1.{start_of}
 use Rattle.h1_head.specs.Room.{room_in, count_in}
 use Rattle.h1_rules.specs.Hopping.{HopsView}
 use Rattle.h1_judge.specs.declared.judging.Judge.{Judge}
-use Rattle.h1_judge.specs.Courses.{start_of, own_fields, Course, item_form}
+use Rattle.h1_judge.specs.Courses.{own_fields, Course, item_form}
 use Rattle.h1_judge.specs.Judges.{course_of, IsCounting, KeepsRoom, IsCleaned, Judges}
 
 same_course : (f g : Framing1) (n k : ℕ) (a b : List (List ℕ)) → f ≡ g → n ≡ k → a ≡ b

@@ -11,10 +11,10 @@ use Rattle.h1_spec.specs.Cleaning.{values_of}
 use Rattle.h1_spec.specs.Framing.{lengths}
 use Rattle.h1_spec.specs.Http1Text.{Case, of_head, of_fields, is_web, is_host, is_length, has_no_body, framing_by}
 use Rattle.h1_spec.specs.Moments.{announced, first_of}
+use Rattle.h1_spec.specs.Http1.{start_of}
 use Rattle.h1_rules.proofs.FramingLemmas.{tested}
 use Rattle.h1_rules.proofs.Digits.{few_digits}
 use Rattle.h1_rules.proofs.Rules.{length_free}
-use Rattle.h1_judge.specs.Courses.{start_of}
 use Rattle.h1_judge.specs.Judges.{IsCounting}
 
 -- the length of a head for which no rule holds

@@ -12,6 +12,8 @@ use Rattle.bh_model.specs.Lines.{FieldsView, lines_room}
 use Rattle.h1_head.specs.Room.{room_in, count_in}
 use Rattle.h1_rules.specs.Hopping.{HopsView}
 use Rattle.h1_rules.specs.Own.{IsNamed}
+use Rattle.h1_rules.proofs.Named.{few_lines}
+use Rattle.h1_rules.proofs.Within.{within_at}
 use Rattle.h1_judge.specs.Judges.{HasRoom, HasRoomOf, IsSound}
 use Rattle.h1_judge.specs.declared.judging.Judge.{Judge}
 
@@ -38,14 +40,6 @@ room_lines (f ∷ fields) =
       int_some (length f.name),
       int_some (length f.value),
     )
-
-few_lines : (fields : List Field) → All IsNamed fields → 3 * length fields ≤ lines_room fields
-few_lines [] h = omega arith
-few_lines (f ∷ fields) h = omega (arith, few_lines fields (All-tail IsNamed f fields h), All-head IsNamed f fields h)
-
-pub within_at : (o : Option ℕ) (limit n : ℕ) → o ≡ Some limit → IsWithin o n → n ≤ limit
-within_at (Some k) limit n e h = let same : k ≡ limit = cc in omega (arith, h, same)
-within_at None limit n e h = absurd (cc)
 
 within : (L : Bounds) (hops : HopsView) (cleaned : FieldsView) (room : HasRoom L hops cleaned) (fields : List Field) → FieldsFit L fields
     → lines_room fields ≤ room.section

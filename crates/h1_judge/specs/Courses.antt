@@ -1,20 +1,16 @@
 -- What is known behind the items of a message for its judgement, what is looked at with each item, and the items of the cleaned message.
 use Rattle.std.specs.Prelude.{ℕ, ◌≡◌, ◌+◌, Bool, false, List, [], ◌∷◌, Option, None}
-use Rattle.bh_spec.specs.Messages.{Field, Start, request, response}
-use Rattle.bh_spec.specs.Items.{Item, interim_response, head, content_byte, trailer_section, ending, Head, of_request, of_response}
+use Rattle.bh_spec.specs.Messages.{Field}
+use Rattle.bh_spec.specs.Items.{Item, interim_response, head, content_byte, trailer_section, ending}
 use Rattle.bh_spec.specs.declared.NoForm.{NoForm}
 use Rattle.h1_spec.specs.declared.Framing1.{Framing1}
 use Rattle.h1_spec.specs.declared.Framing1.TheVariants.{Empty, Counted, Chunked, ToEnd}
 use Rattle.h1_spec.specs.Cleaning.{hops, clean, clean_trailers, says_host}
 use Rattle.h1_spec.specs.Http1Text.{Case, of_interim, of_head}
 use Rattle.h1_spec.specs.Moments.{announced, of_byte, of_trailers, first_of}
+use Rattle.h1_spec.specs.Http1.{start_of}
 
 -- ---- the cleaned message
-
--- interim responses are items of their own
-abbrev pub start_of : Head → Start
-start_of (of_request control) = request control
-start_of (of_response status) = response [] status
 
 -- The lines of an item's section that are the message's own. A trailer section is cleaned by the names of the header section.
 abbrev pub own_fields : List (List ℕ) → Item → List Field

@@ -18,9 +18,10 @@ use Rattle.bh_reading.specs.Readings.{Counted}
 use Rattle.bh_reading.specs.Coming.{InterimComes, StartComes, TrailersCome}
 use Rattle.h1_spec.specs.Http1Text.{has_bad_value}
 use Rattle.h1_spec.specs.Moments.{announced, of_end, first_of}
+use Rattle.h1_spec.specs.Http1.{start_of}
 use Rattle.h1_judge.specs.declared.judged.IntoWhy.{IntoWhy}
 use Rattle.h1_judge.specs.declared.judged.IntoWhy.TheVariants as why
-use Rattle.h1_judge.specs.Courses.{start_of, own_fields, cleaned_items, Course, start_course, behind, item_form, AreFree}
+use Rattle.h1_judge.specs.Courses.{own_fields, cleaned_items, Course, start_course, behind, item_form, AreFree}
 
 -- the decoder of the binary message, whether a response answers HEAD, what is known for the judgement, and the cleaned lines of the
 -- section that was handed out last

@@ -1,0 +1,10 @@
+pub mod HeadAnswers
+pub mod HeadRooms
+pub mod AtStart
+pub mod Judging
+pub mod HeadSteps
+pub mod HeadEnds
+pub mod Completing
+pub mod BodyPlaces
+pub mod Standings
+pub mod Counting

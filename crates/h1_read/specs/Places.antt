@@ -1,6 +1,6 @@
 -- A reader of an HTTP/1.1 message in the middle of it: where it stands, and what completes the message from there. What is handed out
 -- are the items of the message that is read, whose sections are cleaned.
-use Rattle.std.specs.Prelude.{ℕ, zero, suc, ◌≡◌, ◌+◌, Bool, true, false, cond, List, [], ◌∷◌, ◌++◌, length}
+use Rattle.std.specs.Prelude.{ℕ, zero, suc, ◌≡◌, ◌+◌, Bool, cond, List, [], ◌∷◌, ◌++◌, length}
 use Rattle.bh_spec.specs.declared.Omitted.{Omitted}
 use Rattle.bh_spec.specs.declared.Omitted.TheVariants.{Nothing, Trailers}
 use Rattle.bh_spec.specs.Bounds.{Bounds, IsWithin}
@@ -15,7 +15,7 @@ use Rattle.h1_spec.specs.Cleaning.{hops, clean, clean_trailers, says_host}
 use Rattle.h1_spec.specs.Framing.{IsCoded, IsCounted, framing}
 use Rattle.h1_spec.specs.Http1.{IsHeadWithin, IsInterimHead, interims_of, IsStartOf}
 use Rattle.h1_spec.specs.Marks.{as_framing}
-use Rattle.h1_spec.specs.BodyStates.{At, start as body_start, Rest, marked, in_count, to_end, in_line, in_chunk, behind_chunk, behind_cr, in_trailers, over}
+use Rattle.h1_spec.specs.BodyStates.{At, start as body_start, is_chunked, Rest, marked}
 
 -- The limits of a reader; the scheme of a request whose target names none, and whether a response answers HEAD, as the caller says.
 pub record Setting : Type 0 where
@@ -32,16 +32,6 @@ pub data Place : Type 0 where
   behind_trailers : Place
 
 -- ---- behind the head
-
-abbrev pub is_chunked : At → Bool
-is_chunked (in_count missing) = false
-is_chunked to_end = false
-is_chunked (in_line state room) = true
-is_chunked (in_chunk missing) = true
-is_chunked behind_chunk = true
-is_chunked behind_cr = true
-is_chunked (in_trailers seen) = true
-is_chunked (over found) = true
 
 -- Chunks end with a trailer section, which may be empty; no byte stands for one behind any other body, so it is left out.
 abbrev pub left_out : At → Omitted

@@ -1,5 +1,5 @@
 -- The reader of an HTTP/1.1 message as the loop over a port sees it.
-use Rattle.std.specs.Prelude.{ℕ, ◌≡◌, ◌<◌, ◌≤◌, ◌+◌, ◌^◌, ◌⊎◌, Bool, false, Option, Some, List, [], ◌∷◌, ◌++◌, length, take}
+use Rattle.std.specs.Prelude.{ℕ, ◌≡◌, ◌<◌, ◌≤◌, ◌+◌, ◌-◌, ◌^◌, ◌⊎◌, Bool, false, Option, Some, List, [], ◌∷◌, ◌++◌, length, take}
 use Rattle.bh_spec.specs.declared.Kind.{Kind}
 use Rattle.bh_spec.specs.declared.Omitted.{Omitted}
 use Rattle.bh_spec.specs.declared.Omitted.TheVariants.{Nothing}
@@ -10,10 +10,10 @@ use Rattle.bh_spec.specs.Bounds.{Bounds}
 use Rattle.bh_spec.specs.Messages.{Field}
 use Rattle.bh_spec.specs.Texts.{Text}
 use Rattle.bh_spec.specs.Residuals.{IsResidual}
-use Rattle.bh_spec.specs.Items.{Item, interim_response, head, trailer_section, ending, Head}
+use Rattle.bh_spec.specs.Items.{Item, ending, Head}
 use Rattle.bh_stream.specs.Decoding.{content_items}
 use Rattle.bh_stream.specs.declared.traits.Event.{Event}
-use Rattle.bh_stream.specs.declared.traits.Event.TheVariants as events
+use Rattle.bh_reading.specs.Handing.{ShowsAs}
 use Rattle.bh_reading.specs.Readings.{within_limit, lines_in, kind_behind, count, IsInput}
 use Rattle.h1_spec.specs.declared.Scheme1.{Scheme1}
 use Rattle.h1_read.specs.Places.{Setting, Place, in_head, RestFrom}
@@ -70,19 +70,13 @@ pub record IsReady (v : View) : Type 0 where
 
 -- the item of an event, as the reader shows it
 abbrev pub shows : View → Event → Item → Type 0
-shows v (events.Interim status) item = (fields : List Field) × (item ≡ interim_response status fields) × (v.fields ≡ Some fields)
-shows v events.Head item = (of : Head) × (fields : List Field) × (item ≡ head of fields) × (v.head ≡ Some of) × (v.fields ≡ Some fields)
-shows v events.Trailers item = (fields : List Field) × (item ≡ trailer_section fields) × (v.fields ≡ Some fields)
+shows v event item = ShowsAs v.head v.fields event item
 
 -- ---- refusals
 
 -- the message may end there
 abbrev pub IsWhole : Setting → Place → Type 0
 IsWhole S p = (omitted : Omitted) × (padding : ℕ) × RestFrom S p (ending omitted padding ∷ []) []
-
--- the message may end there, or there are too few bytes; nothing else is wrong yet
-abbrev pub IsOpen : Setting → Place → Type 0
-IsOpen S p = IsWhole S p ⊎ WrongFrom S p [] why.Ended
 
 -- With the byte of the piece numbered `at` this is wrong, whatever follows, and the byte is within the limit of the input.
 pub record IsFoundAt (v : View) (piece : List ℕ) (at : ℕ) (cause : H1Why) : Type 0 where
@@ -101,7 +95,7 @@ pub record Refuses (v : View) (piece : List ℕ) (cause : H1Why) : Type 0 where
   pub inside : at < length piece
   pub state : View
   pub moved : Moved v (take at piece) [] state
-  pub before : IsOpen state.setting state.place
+  pub before : IsWhole state.setting state.place ⊎ WrongFrom v.setting v.place (take at piece) why.Ended
   pub decided : IsFoundAt v piece at cause ⊎ IsTooLongAt v at cause
 
 abbrev pub misses : View → H1Why → Type 0

@@ -10,6 +10,11 @@ use Rattle.h1_rules.specs.declared.targets.TargetParts.{TargetParts}
 use Rattle.h1_rules.specs.Targeted.{control_by}
 use Rattle.h1_rules.proofs.Values.{drop_line}
 
+-- a limit that is a number
+pub within_at : (o : Option ℕ) (limit n : ℕ) → o ≡ Some limit → IsWithin o n → n ≤ limit
+within_at (Some k) limit n e h = let same : k ≡ limit = cc in omega (arith, h, same)
+within_at None limit n e h = absurd (cc)
+
 -- within a limit of parts, and with so much room for all
 pub record FitIn (part : Option ℕ) (room : ℕ) (fields : List Field) : Type 0 where
   pub names : All (λ (field : Field). IsWithin part (length field.name)) fields

@@ -11,7 +11,7 @@ use Rattle.bh_spec.specs.declared.H1Why.TheVariants as why
 use Rattle.bh_spec.specs.Texts.{◌then◌, AreEach}
 use Rattle.h1_spec.specs.Grammar.{crlf}
 use Rattle.h1_spec.specs.Bodies.{IsChunkLine, IsChunk, IsTrailerSection, IsChunked}
-use Rattle.h1_spec.specs.BodyCauses.{CanBegin, IsLineOf, IsAnyLine, HasBegun, OfChunkLine, OfNextChunk, OfBody}
+use Rattle.h1_spec.specs.BodyCauses.{CanBegin, IsLineOf, IsAnyLine, HasBegun, OfChunkLine, OfNextChunk, OfBody, Behind}
 use Rattle.h1_spec.specs.ChunkStates.{in_digits}
 use Rattle.h1_spec.proofs.ChunkLines.{line_completes, completes_line}
 use Rattle.h1_spec.specs.BodyStates.{start, Rest, RestOfLine, BehindLine, LineFrom, AnyLineFrom, GoesOn, OfLine, OfChunks, OfBehindLine, OfRest, nothing_behind, Starts}
@@ -133,15 +133,15 @@ of_line bytes c (inl h) =
 of_line bytes c (inr (inl h)) = inr (inl (h.0, begun (take 1024 bytes) h.1, h.2))
 of_line bytes c (inr (inr h)) = inr (inr (h.0, begun bytes h.1, h.2))
 
-here : (L : Bounds) (bytes : List ℕ) (c : H1Why) → OfNextChunk L nothing_behind bytes c → OfChunks L nothing_behind c bytes
-here L bytes c h = ([], All-nil IsSome, ([], bytes, refl, h, refl))
+here : (L : Bounds) (behind : Behind) (bytes : List ℕ) (c : H1Why) → OfNextChunk L behind bytes c → OfChunks L behind c bytes
+here L behind bytes c h = ([], All-nil IsSome, ([], bytes, refl, h, refl))
 
-pub chunks_from : (L : Bounds) (bytes : List ℕ) (c : H1Why) → OfRest L nothing_behind (start Chunked) bytes c → OfChunks L nothing_behind c bytes
-chunks_from L bytes c (inl h) = here L bytes c (inl (of_line bytes c h))
-chunks_from L bytes c (inr h) = at h.0 h.1.0 h.1.1 h.1.2 h.1.3 h.1.4
+pub chunks_from : (L : Bounds) (behind : Behind) (bytes : List ℕ) (c : H1Why) → OfRest L behind (start Chunked) bytes c → OfChunks L behind c bytes
+chunks_from L behind bytes c (inl h) = here L behind bytes c (inl (of_line bytes c h))
+chunks_from L behind bytes c (inr h) = at h.0 h.1.0 h.1.1 h.1.2 h.1.3 h.1.4
   where
-    at : (size : ℕ) (line rest : List ℕ) → RestOfLine size (in_digits 0 0) 1024 line → OfBehindLine L nothing_behind size rest c → bytes ≡ line ++ rest → OfChunks L nothing_behind c bytes
-    at size line rest l (inl (s, inl h)) e = here L bytes c (inr (size, line, rest, e, (l.0, completes_line 15 size line l.1), inl (s, h)))
+    at : (size : ℕ) (line rest : List ℕ) → RestOfLine size (in_digits 0 0) 1024 line → OfBehindLine L behind size rest c → bytes ≡ line ++ rest → OfChunks L behind c bytes
+    at size line rest l (inl (s, inl h)) e = here L behind bytes c (inr (size, line, rest, e, (l.0, completes_line 15 size line l.1), inl (s, h)))
     at size line rest l (inl (s, inr q)) e =
         let chunk = q.0 in
         let p = q.2 in
@@ -160,22 +160,26 @@ chunks_from L bytes c (inr h) = at h.0 h.1.0 h.1.1 h.1.2 h.1.3 h.1.4
             shape_back bytes line rest chunk p.0 p.1 end.0 end.1 ch.0 ch.1 e p.4 p.2 end.4 end.2 ch.4,
           ),
         )
-    at size line rest l (inr t) e = here L bytes c (inr (size, line, rest, e, (l.0, completes_line 15 size line l.1), inr t))
+    at size line rest l (inr t) e = here L behind bytes c (inr (size, line, rest, e, (l.0, completes_line 15 size line l.1), inr t))
+
+-- whatever is said behind the body
+pub starts_causes : (L : Bounds) (framing : Framing1) (behind : Behind) (bytes : List ℕ) (cause : H1Why) → OfRest L behind (start framing) bytes cause → OfBody L framing behind bytes cause
+starts_causes L Empty behind bytes cause (inl h) = absurd (omega (arith, h.0))
+starts_causes L Empty behind bytes cause (inr h) = h.1
+starts_causes L (Counted n) behind bytes cause h = h
+starts_causes L Chunked behind bytes cause h = chunks_from L behind bytes cause h
+starts_causes L ToEnd behind bytes cause h = h
 
 pub starts : (L : Bounds) (framing : Framing1) → Starts L framing
 starts L Empty = record {
   forth = λ content trailers bytes h. (nil_of content h.0, h.1, h.2 ∙ nil_of content h.0);
   back = λ content trailers bytes h. (ap (length {A = ℕ}) h.0, h.1, h.2 ∙ sym h.0);
-  causes = λ bytes cause h. empty bytes cause h;
+  causes = starts_causes L Empty nothing_behind;
 }
   where
     nil_of : (x : List ℕ) → length x ≡ 0 → x ≡ []
     nil_of [] e = refl
     nil_of (b ∷ x) e = absurd (omega (arith, e))
-
-    empty : (bytes : List ℕ) (cause : H1Why) → OfBody L (Counted 0) nothing_behind bytes cause → OfBody L Empty nothing_behind bytes cause
-    empty bytes cause (inl h) = omega (arith, h.0)
-    empty bytes cause (inr h) = h.1
-starts L (Counted n) = record { forth = λ content trailers bytes h. h; back = λ content trailers bytes h. h; causes = λ bytes cause h. h }
-starts L ToEnd = record { forth = λ content trailers bytes h. h; back = λ content trailers bytes h. h; causes = λ bytes cause h. h }
-starts L Chunked = record { forth = chunked_from L; back = chunked_to L; causes = chunks_from L }
+starts L (Counted n) = record { forth = λ content trailers bytes h. h; back = λ content trailers bytes h. h; causes = starts_causes L (Counted n) nothing_behind }
+starts L ToEnd = record { forth = λ content trailers bytes h. h; back = λ content trailers bytes h. h; causes = starts_causes L ToEnd nothing_behind }
+starts L Chunked = record { forth = chunked_from L; back = chunked_to L; causes = starts_causes L Chunked nothing_behind }

@@ -8,7 +8,7 @@ use Rattle.bh_spec.specs.declared.H1Why.TheVariants as why
 use Rattle.bh_spec.specs.Texts.{◌then◌}
 use Rattle.h1_spec.specs.Grammar.{Is, crlf}
 use Rattle.h1_spec.specs.Bodies.{IsChunked}
-use Rattle.h1_spec.specs.BodyCauses.{OfBody}
+use Rattle.h1_spec.specs.BodyCauses.{OfBody, Behind}
 use Rattle.h1_spec.specs.BodyStates.{start, in_count, to_end, in_chunk, behind_chunk, behind_cr, OfExpected, OfRestOfChunk, OfRest, nothing_behind, Moves}
 use Rattle.h1_spec.proofs.BodySteps.{moves_by}
 use Rattle.h1_spec.proofs.BodyMarks.{chunk_marks, over_marks, count_marks, end_marks, cr_marks, lf_marks}
@@ -45,12 +45,13 @@ chunk_run L x m = moves_by L (in_chunk (length x + m)) x x (in_chunk m) (record 
       );
   causes = causes;
   marks = chunk_marks x m;
+  kind = refl;
 })
   where
-    causes : (more : List ℕ) (cause : H1Why) → OfRestOfChunk L nothing_behind m more cause → OfRestOfChunk L nothing_behind (length x + m) (x ++ more) cause
-    causes more cause (inl (inl h)) = inl (inl (omega (arith, h.0, length-append x more), h.1))
-    causes more cause (inl (inr h)) = inl (inr (omega (arith, h.0, length-append x more), subst (λ (z : List ℕ). OfExpected crlf z cause) (sym (drop_on x m more)) h.1))
-    causes more cause (inr h) =
+    causes : (behind : Behind) (more : List ℕ) (cause : H1Why) → OfRestOfChunk L behind m more cause → OfRestOfChunk L behind (length x + m) (x ++ more) cause
+    causes behind more cause (inl (inl h)) = inl (inl (omega (arith, h.0, length-append x more), h.1))
+    causes behind more cause (inl (inr h)) = inl (inr (omega (arith, h.0, length-append x more), subst (λ (z : List ℕ). OfExpected crlf z cause) (sym (drop_on x m more)) h.1))
+    causes behind more cause (inr h) =
         let p = h.2 in
         inr (
           x ++ h.0,
@@ -77,11 +78,12 @@ chunk_over L = moves_by L (in_chunk 0) [] [] behind_chunk (record {
   back = λ later trailers more r. ([], later, refl, refl, ([], more, refl, r, refl));
   causes = causes;
   marks = over_marks;
+  kind = refl;
 })
   where
-    causes : (more : List ℕ) (cause : H1Why) → OfRest L nothing_behind behind_chunk more cause → OfRestOfChunk L nothing_behind 0 more cause
-    causes more cause (inl h) = inl (inr (omega arith, h))
-    causes more cause (inr h) = inr ([], refl, ([], more, refl, h, refl))
+    causes : (behind : Behind) (more : List ℕ) (cause : H1Why) → OfRest L behind behind_chunk more cause → OfRestOfChunk L behind 0 more cause
+    causes behind more cause (inl h) = inl (inr (omega arith, h))
+    causes behind more cause (inr h) = inr ([], refl, ([], more, refl, h, refl))
 
 pub count_run : (L : Bounds) (x : List ℕ) (m : ℕ) → Moves L (in_count (length x + m)) x x (in_count m)
 count_run L x m = moves_by L (in_count (length x + m)) x x (in_count m) (record {
@@ -89,18 +91,20 @@ count_run L x m = moves_by L (in_count (length x + m)) x x (in_count m) (record 
   back = λ later trailers more r. (length-append x later ∙ ap (λ (n : ℕ). length x + n) r.0, r.1, ap (λ (z : List ℕ). x ++ z) r.2);
   causes = causes;
   marks = count_marks x m;
+  kind = refl;
 })
   where
-    causes : (more : List ℕ) (cause : H1Why) → OfBody L (Counted m) nothing_behind more cause → OfBody L (Counted (length x + m)) nothing_behind (x ++ more) cause
-    causes more cause (inl h) = inl (omega (arith, h.0, length-append x more), h.1)
-    causes more cause (inr h) = absurd h.1
+    causes : (behind : Behind) (more : List ℕ) (cause : H1Why) → OfBody L (Counted m) behind more cause → OfBody L (Counted (length x + m)) behind (x ++ more) cause
+    causes behind more cause (inl h) = inl (omega (arith, h.0, length-append x more), h.1)
+    causes behind more cause (inr h) = inr (omega (arith, h.0, length-append x more), subst (λ (z : List ℕ). behind [] z cause) (sym (drop_on x m more)) h.1)
 
 pub end_run : (L : Bounds) (x : List ℕ) → Moves L to_end x x to_end
 end_run L x = moves_by L to_end x x to_end (record {
   forth = λ found trailers more r. (more, sym r.1, (r.0, refl));
   back = λ later trailers more r. (r.0, ap (λ (z : List ℕ). x ++ z) r.1);
-  causes = λ more cause h. h;
+  causes = λ behind more cause h. h;
   marks = end_marks x;
+  kind = refl;
 })
 
 -- ---- the line end
@@ -113,12 +117,13 @@ end_cr L = moves_by L behind_chunk (13 ∷ []) [] behind_cr (record {
   back = λ later trailers more r. (crlf, r.1, refl, r.3, ap (λ (z : List ℕ). 13 ∷ z) (r.4 ∙ ap (λ (z : List ℕ). z ++ r.1) r.2));
   causes = causes;
   marks = cr_marks;
+  kind = refl;
 })
   where
-    causes : (more : List ℕ) (cause : H1Why) → OfRest L nothing_behind behind_cr more cause → OfRest L nothing_behind behind_chunk (13 ∷ more) cause
-    causes more cause (inl (inl h)) = inl (inl ((h.0.0, h.0.1, ap (λ (z : List ℕ). 13 ∷ z) h.0.2), h.1))
-    causes more cause (inl (inr h)) = inl (inr ((λ z e. h.0.0 z cc, λ z e. h.0.1 z cc), h.1))
-    causes more cause (inr r) = inr (crlf, r.1, refl, r.3, ap (λ (z : List ℕ). 13 ∷ z) (r.4 ∙ ap (λ (z : List ℕ). z ++ r.1) r.2))
+    causes : (behind : Behind) (more : List ℕ) (cause : H1Why) → OfRest L behind behind_cr more cause → OfRest L behind behind_chunk (13 ∷ more) cause
+    causes behind more cause (inl (inl h)) = inl (inl ((h.0.0, h.0.1, ap (λ (z : List ℕ). 13 ∷ z) h.0.2), h.1))
+    causes behind more cause (inl (inr h)) = inl (inr ((λ z e. h.0.0 z cc, λ z e. h.0.1 z cc), h.1))
+    causes behind more cause (inr r) = inr (crlf, r.1, refl, r.3, ap (λ (z : List ℕ). 13 ∷ z) (r.4 ∙ ap (λ (z : List ℕ). z ++ r.1) r.2))
 
 pub end_lf : (L : Bounds) → Moves L behind_cr (10 ∷ []) [] (start Chunked)
 end_lf L = moves_by L behind_cr (10 ∷ []) [] (start Chunked) (record {
@@ -127,8 +132,9 @@ end_lf L = moves_by L behind_cr (10 ∷ []) [] (start Chunked) (record {
       let same : more ≡ r.1 = cc in
       (found, refl, chunked_to L found trailers more (subst (IsChunked L found trailers) (sym same) r.3));
   back = λ later trailers more r. (10 ∷ [], more, refl, chunked_from L later trailers more r, refl);
-  causes = λ more cause h. inr (10 ∷ [], more, refl, chunks_from L more cause h, refl);
+  causes = λ behind more cause h. inr (10 ∷ [], more, refl, chunks_from L behind more cause h, refl);
   marks = lf_marks;
+  kind = refl;
 })
 
 -- ---- what is wrong

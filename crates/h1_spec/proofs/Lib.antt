@@ -32,6 +32,7 @@ pub mod LineSteps
 pub mod ChunkSteps
 pub mod TrailerEnds
 pub mod BodyStarts
+pub mod BehindBodies
 pub mod BodyCuts
 pub mod Readings
 pub mod Translated

@@ -8,10 +8,10 @@ use Rattle.bh_spec.specs.declared.H1Why.{H1Why}
 use Rattle.bh_spec.specs.declared.H1Why.TheVariants as why
 use Rattle.h1_spec.specs.Bodies.{is_hex}
 use Rattle.h1_spec.specs.Causes.{◌when◌else◌}
-use Rattle.h1_spec.specs.BodyCauses.{CanBegin}
+use Rattle.h1_spec.specs.BodyCauses.{CanBegin, Behind}
 use Rattle.h1_spec.specs.ChunkStates.{InLine, in_digits, in_blanks, in_extension, behind_cr as line_cr, line_ended, next_state, Completes}
 use Rattle.h1_spec.proofs.ChunkLines.{IsFew, HasRoom, CompletesBehind, step_on, step_back, some_rest, some_state, same_next, ends_alone}
-use Rattle.h1_spec.specs.BodyStates.{At, in_line, in_chunk, in_trailers, Rest, RestOfLine, BehindLine, LineFrom, AnyLineFrom, GoesOn, IsDeadFrom, OfLine, OfBehindLine, OfRest, nothing_behind, AreMarked, Moves}
+use Rattle.h1_spec.specs.BodyStates.{At, is_chunked, in_line, in_chunk, in_trailers, Rest, RestOfLine, BehindLine, LineFrom, AnyLineFrom, GoesOn, IsDeadFrom, OfLine, OfBehindLine, OfRest, nothing_behind, AreMarked, Moves}
 use Rattle.h1_spec.proofs.BodySteps.{moves_by}
 use Rattle.h1_spec.proofs.BodyMarks.{line_marks, line_over_marks, chunk_begins_marks}
 
@@ -136,6 +136,7 @@ line_step L s b t room few e = moves_by L (in_line s (suc room)) (b ∷ []) [] (
       (r.0, (b ∷ r.1.0, r.1.1, (omega (arith, r.1.2.0), state_back 15 r.0 s b t r.1.0 few e r.1.2.1), r.1.3, ap (λ (z : List ℕ). b ∷ z) r.1.4));
   causes = causes;
   marks = line_marks s b t room e;
+  kind = refl;
 })
   where
     forth : (found : List ℕ) (trailers : List Field) (more : List ℕ) (size : ℕ) (x y : List ℕ) → RestOfLine size s (suc room) x → BehindLine L size found trailers y → (b ∷ more) ≡ x ++ y
@@ -146,9 +147,9 @@ line_step L s b t room few e = moves_by L (in_line s (suc room)) (b ∷ []) [] (
         let tail : more ≡ x ++ y = cc in
         (size, (x, y, (omega (arith, l.0), step_state 15 size s b t x e (subst (λ (z : ℕ). Completes 15 size s (z ∷ x)) same l.1)), h, tail))
 
-    causes : (more : List ℕ) (cause : H1Why) → OfRest L nothing_behind (in_line t room) more cause → OfRest L nothing_behind (in_line s (suc room)) (b ∷ more) cause
-    causes more cause (inl h) = inl (of_line_back s b t room more cause few e h)
-    causes more cause (inr r) = inr (r.0, (b ∷ r.1.0, r.1.1, (omega (arith, r.1.2.0), state_back 15 r.0 s b t r.1.0 few e r.1.2.1), r.1.3, ap (λ (z : List ℕ). b ∷ z) r.1.4))
+    causes : (behind : Behind) (more : List ℕ) (cause : H1Why) → OfRest L behind (in_line t room) more cause → OfRest L behind (in_line s (suc room)) (b ∷ more) cause
+    causes behind more cause (inl h) = inl (of_line_back s b t room more cause few e h)
+    causes behind more cause (inr r) = inr (r.0, (b ∷ r.1.0, r.1.1, (omega (arith, r.1.2.0), state_back 15 r.0 s b t r.1.0 few e r.1.2.1), r.1.3, ap (λ (z : List ℕ). b ∷ z) r.1.4))
 
 -- ---- the end of a line
 
@@ -166,10 +167,15 @@ line_end L size room = moves_by L (in_line (line_ended size) room) [] [] (at_beh
         (subst (λ (n : ℕ). BehindLine L n found trailers more) (sym r.1.2.1.0) (subst (BehindLine L r.0 found trailers) (sym (r.1.4 ∙ ap (λ (z : List ℕ). z ++ r.1.1) r.1.2.1.1)) r.1.3)),
   );
   back = λ later trailers more r. (size, ([], more, (omega arith, (refl, refl)), back size later trailers more r, refl));
-  causes = λ more cause c. inr (size, ([], more, (omega arith, (refl, refl)), causes size more cause c, refl));
+  causes = λ behind more cause c. inr (size, ([], more, (omega arith, (refl, refl)), causes behind size more cause c, refl));
   marks = marks size;
+  kind = kind size;
 })
   where
+    kind : (n : ℕ) → true ≡ is_chunked (at_behind_line n)
+    kind zero = refl
+    kind (suc n) = refl
+
     marks : (n : ℕ) → AreMarked (in_line (line_ended n) room) [] [] (at_behind_line n)
     marks zero = line_over_marks room
     marks (suc n) = chunk_begins_marks n room
@@ -184,9 +190,9 @@ line_end L size room = moves_by L (in_line (line_ended size) room) [] [] (at_beh
     back zero found trailers more h = inl (refl, h.0, h.1)
     back (suc n) found trailers more h = inr (omega arith, h)
 
-    causes : (n : ℕ) (more : List ℕ) (cause : H1Why) → OfRest L nothing_behind (at_behind_line n) more cause → OfBehindLine L nothing_behind n more cause
-    causes zero more cause h = inr (refl, h)
-    causes (suc n) more cause h = inl (omega arith, h)
+    causes : (behind : Behind) (n : ℕ) (more : List ℕ) (cause : H1Why) → OfRest L behind (at_behind_line n) more cause → OfBehindLine L behind n more cause
+    causes behind zero more cause h = inr (refl, h)
+    causes behind (suc n) more cause h = inl (omega arith, h)
 
 -- ---- what is wrong
 

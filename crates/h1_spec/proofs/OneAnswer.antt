@@ -133,7 +133,7 @@ interim_passes L scheme to_head is i x r c h few cause =
 
 -- ---- one cause
 
-within_fewer : (o : Option ℕ) (m n : ℕ) → m ≤ n → IsWithin o n → IsWithin o m
+pub within_fewer : (o : Option ℕ) (m n : ℕ) → m ≤ n → IsWithin o n → IsWithin o m
 within_fewer None m n h p = tt
 within_fewer (Some most) m n h p = omega arith
 
@@ -209,7 +209,7 @@ next_of : (scheme : Scheme1) (head : Head) (a : Start) → IsStartOf scheme head
 next_of scheme head (request control) s = tt
 next_of scheme head (response is status) s = next_status is head.start status s.0
 
-few_of : (L : Bounds) (a : Start) → StartFits L a → IsWithin L.interims (length (interims_of a))
+pub few_of : (L : Bounds) (a : Start) → StartFits L a → IsWithin L.interims (length (interims_of a))
 few_of L (request control) fits = within_none L.interims
   where
     within_none : (o : Option ℕ) → IsWithin o 0

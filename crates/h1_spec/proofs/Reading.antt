@@ -1,5 +1,5 @@
 -- Bytes are one message at most.
-use Rattle.std.proofs.Common.{◌≡◌, ◌≤◌, false, arith, ℕ, List, [], ◌∷◌, refl, sym, ap, ap₂, subst, subst₂, ◌∙◌}
+use Rattle.std.proofs.Common.{◌≡◌, ◌≤◌, Bool, false, arith, ℕ, List, [], ◌∷◌, refl, sym, ap, ap₂, subst, subst₂, ◌∙◌}
 use Rattle.bh_spec.specs.Bounds.{Bounds, no_bounds}
 use Rattle.bh_spec.specs.Messages.{Field, Interim, Start, request, response, Message}
 use Rattle.bh_spec.specs.Canonical.{FieldsFit, StartFits}
@@ -12,14 +12,14 @@ use Rattle.h1_spec.specs.Cleaning.{hops, clean, clean_trailers, says_host}
 use Rattle.h1_spec.specs.Framing.{framing}
 use Rattle.h1_spec.specs.Targets.{IsTargetOf}
 use Rattle.h1_spec.specs.Bodies.{IsBody}
-use Rattle.h1_spec.specs.Http1.{IsHeadWithin, IsInterimHead, interims_of, IsStartOf}
+use Rattle.h1_spec.specs.Http1.{IsHeadWithin, IsInterimHead, interims_of, IsStartOf, IsHttp1}
 use Rattle.h1_spec.specs.Laws.{OneMessage, WithoutLimits}
 use Rattle.h1_spec.proofs.Fronts.{Front, Same, Apart, same_then, same_each}
 use Rattle.h1_spec.proofs.HeadTexts.{head_front}
 use Rattle.h1_spec.proofs.BodyTexts.{body_same}
 use Rattle.h1_spec.proofs.TargetTexts.{target_once}
 
-within_front : (K L : Bounds) (h k : Head) → Front (h ≡ k) (IsHeadWithin K h) (IsHeadWithin L k)
+pub within_front : (K L : Bounds) (h k : Head) → Front (h ≡ k) (IsHeadWithin K h) (IsHeadWithin L k)
 within_front K L h k x y r s p q = head_front h k x y r s p.1 q.1
 
 interim_is : (i j : Interim) → i.status ≡ j.status → i.fields ≡ j.fields → i ≡ j
@@ -61,7 +61,7 @@ pub message_is : (a b : Start) (fs gs : List Field) (c d : List ℕ) (ts us : Li
     → let m : Message = record { start = a; fields = fs; content = c; trailers = ts } in let n : Message = record { start = b; fields = gs; content = d; trailers = us } in m ≡ n
 message_is a b fs gs c d ts us p q r s = λ i. record { start = p i; fields = q i; content = r i; trailers = s i }
 
-start_once : (scheme : Scheme1) (h k : Head) (a b : Start) → h ≡ k → interims_of a ≡ interims_of b → IsStartOf scheme h a → IsStartOf scheme k b → a ≡ b
+pub start_once : (scheme : Scheme1) (h k : Head) (a b : Start) → h ≡ k → interims_of a ≡ interims_of b → IsStartOf scheme h a → IsStartOf scheme k b → a ≡ b
 start_once scheme h k (request c) (request d) e f p q =
     let line : request_line c.method p.0 ≡ request_line d.method q.0 = sym p.1 ∙ ap (λ (z : Head). z.start) e ∙ q.1 in
     let method : c.method ≡ d.method = cc in
@@ -78,8 +78,15 @@ start_once scheme h k (response is s) (request d) e f p q = absurd (apart d.meth
     apart : (m u : List ℕ) (s : ℕ) → request_line m u ≡ status_line s → ⊥
     apart m u s e = cc
 
-pub one_message : OneMessage
-one_message K L scheme to_head m n bytes p q =
+-- what two readings of the same bytes have in common, whatever the scheme of the caller
+abbrev pub SameParts : (K L : Bounds) (scheme other : Scheme1) (to_head : Bool) (m n : Message) (x y : List ℕ)
+    → IsHttp1 K scheme to_head m x → IsHttp1 L other to_head n y → Type 0
+SameParts K L scheme other to_head m n x y p q =
+    (interims_of m.start ≡ interims_of n.start) × ((p.head ≡ q.head) × ((m.content ≡ n.content) × (p.trailers ≡ q.trailers)))
+
+pub same_parts : (K L : Bounds) (scheme other : Scheme1) (to_head : Bool) (m n : Message) (x y : List ℕ) → x ≡ y
+    → (p : IsHttp1 K scheme to_head m x) (q : IsHttp1 L other to_head n y) → SameParts K L scheme other to_head m n x y p q
+same_parts K L scheme other to_head m n x y e p q =
     let ends : Same ((p.head ≡ q.head) × ((m.content ≡ n.content) × (p.trailers ≡ q.trailers)))
     (IsHeadWithin K p.head then IsBody K (framing to_head p.head) m.content p.trailers) (IsHeadWithin L q.head then IsBody L (framing to_head q.head) n.content q.trailers) =
     same_then (p.head ≡ q.head) ((p.head ≡ q.head) × ((m.content ≡ n.content) × (p.trailers ≡ q.trailers)))
@@ -90,15 +97,19 @@ one_message K L scheme to_head m n bytes p q =
       body_same K L (framing to_head p.head) m.content n.content p.trailers q.trailers x y b
           (subst (λ (h : Head). IsBody L (framing to_head h) n.content q.trailers y) (sym e) d) same,
     )) in
-    let all = same_each ((p.head ≡ q.head) × ((m.content ≡ n.content) × (p.trailers ≡ q.trailers))) Any (IsInterimHead K) (IsInterimHead L)
+    same_each ((p.head ≡ q.head) × ((m.content ≡ n.content) × (p.trailers ≡ q.trailers))) Any (IsInterimHead K) (IsInterimHead L)
     (IsHeadWithin K p.head then IsBody K (framing to_head p.head) m.content p.trailers) (IsHeadWithin L q.head then IsBody L (framing to_head q.head) n.content q.trailers)
     (record {
       items = λ i j a b. interim_front K L i j;
       ends = ends;
-      left = λ i a x y r f g e. interim_apart K L i q.head (start_is_last scheme q.head n.start q.start) x g.0 r g.1 f g.2 (e ∙ g.4);
+      left = λ i a x y r f g e. interim_apart K L i q.head (start_is_last other q.head n.start q.start) x g.0 r g.1 f g.2 (e ∙ g.4);
       right = λ j a x y r f g e. interim_apart L K j p.head (start_is_last scheme p.head m.start p.start) y f.0 r f.1 g f.2 (sym e ∙ f.4);
     })
-    (interims_of m.start) (interims_of n.start) (λ k d i. tt) (λ k d i. tt) bytes bytes p.text q.text refl in
+    (interims_of m.start) (interims_of n.start) (λ k d i. tt) (λ k d i. tt) x y p.text q.text e
+
+pub one_message : OneMessage
+one_message K L scheme to_head m n bytes p q =
+    let all = same_parts K L scheme scheme to_head m n bytes bytes refl p q in
     let start : m.start ≡ n.start = start_once scheme p.head q.head m.start n.start all.1.0 all.0 p.start q.start in
     let fields : m.fields ≡ n.fields = p.fields ∙ ap₂ (λ (h : Head) (a : Start). clean (hops h.fields) (says_host a) h.fields) all.1.0 start ∙ sym q.fields in
     let trailers : m.trailers ≡ n.trailers = p.cleaned ∙ ap₂ (λ (h : Head) (ts : List Field). clean_trailers (hops h.fields) ts) all.1.0 all.1.1.1 ∙ sym q.cleaned in

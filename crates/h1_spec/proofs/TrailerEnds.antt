@@ -1,14 +1,18 @@
 -- The trailer section: behind the line end of the last chunk line it ends as a head does, with the first empty line.
-use Rattle.std.proofs.Common.{◌≡◌, ◌⊎◌, ◌<◌, ◌≤◌, ◌+◌, arith, ℕ, suc, List, [], ◌∷◌, ◌++◌, length, take, drop, Option, Some, refl, sym, ap, subst, ◌∙◌, append_assoc, append-nil, inl, inr}
+use Rattle.std.proofs.Common.{◌≡◌, ◌⊎◌, ◌<◌, ◌≤◌, ◌+◌, arith, ℕ, zero, suc, List, [], ◌∷◌, ◌++◌, length, take, drop, Option, Some, refl, sym, ap, subst, ◌∙◌, append_assoc, append-nil, inl, inr}
 use Rattle.std.proofs.lemmas.Bool.{cases_order, cases_lt}
 use Rattle.std.proofs.lemmas.List.{length-append, length-take, take_all, take-take, take-append-le, take-append-drop}
 use Rattle.std.proofs.Math.Seq.{take-append_seam}
 use Rattle.bh_spec.specs.Bounds.{Bounds, IsWithin}
 use Rattle.bh_spec.specs.Messages.{Field}
+use Rattle.bh_spec.specs.declared.H1Why.{H1Why}
 use Rattle.bh_spec.specs.declared.H1Why.TheVariants as why
 use Rattle.h1_spec.specs.Grammar.{crlf}
 use Rattle.h1_spec.specs.Heads.{IsSection, EndsBlank, EndsAt}
-use Rattle.h1_spec.specs.BodyCauses.{EndsAtOnce, TrailerEndsAt, OfTrailers}
+use Rattle.h1_spec.specs.Bodies.{IsTrailerSection}
+use Rattle.h1_spec.specs.BodyCauses.{EndsAtOnce, TrailerEndsAt, OfTrailers, Behind}
+use Rattle.h1_spec.proofs.Ends.{trailers_end}
+use Rattle.h1_spec.proofs.Causes.{drop_seam}
 use Rattle.h1_spec.proofs.HeadTexts.{section_front}
 use Rattle.h1_spec.specs.Heads.{HoldsNoEnd}
 use Rattle.h1_spec.specs.BodyStates.{in_trailers, over, OfRest, nothing_behind, Moves}
@@ -86,6 +90,12 @@ ends_longer y r s h = record {
   first = λ fewer less e. h.first fewer less (subst EndsBlank (take-append-le fewer y s (omega (arith, less)) ∙ sym (take-append-le fewer y r (omega (arith, less)))) e);
 }
 
+-- an end that wasn't there before stands in what follows
+pub ends_later : (seen piece : List ℕ) (n : ℕ) → HoldsNoEnd seen → EndsAt (seen ++ piece) (length seen + n) → 0 < n
+ends_later seen piece zero none ends =
+    absurd (none (length seen) (subst EndsBlank (ap (λ (n : ℕ). take n (seen ++ piece)) (omega arith) ∙ take-append-le (length seen) seen piece (omega arith)) ends.ends))
+ends_later seen piece (suc n) none ends = omega arith
+
 -- what holds no end holds none in its front
 pub none_front : (n : ℕ) (z : List ℕ) → HoldsNoEnd z → HoldsNoEnd (take n z)
 none_front n z h many e =
@@ -108,8 +118,9 @@ pub trailers_on : (L : Bounds) (seen x : List ℕ) → Moves L (in_trailers seen
 trailers_on L seen x = moves_by L (in_trailers seen) x [] (in_trailers (seen ++ x)) (record {
   forth = λ found trailers more r. (found, refl, (r.0, (subst (λ (z : List ℕ). IsWithin L.section (length z)) (sym (append_assoc seen x more)) r.1.0, subst (IsSection trailers) (sym (append_assoc seen x more)) r.1.1)));
   back = λ later trailers more r. (r.0, (subst (λ (z : List ℕ). IsWithin L.section (length z)) (append_assoc seen x more) r.1.0, subst (IsSection trailers) (append_assoc seen x more) r.1.1));
-  causes = λ more cause h. subst (λ (z : List ℕ). OfTrailers L nothing_behind z cause) (append_assoc seen x more) h;
+  causes = λ behind more cause h. subst (λ (z : List ℕ). OfTrailers L behind z cause) (append_assoc seen x more) h;
   marks = trailers_marks seen x (seen ++ x);
+  kind = refl;
 })
 
 same_most : (L : Bounds) (a b : ℕ) → L.section ≡ Some a → L.section ≡ Some b → a ≡ b
@@ -158,6 +169,18 @@ trailers_wrong L most x rest after e ends fits wrong = inr (inr (record {
     long : length (crlf ++ x) ≡ length x + 2
     long = omega arith
 
+-- behind a whole one
+trailers_whole : (L : Bounds) (behind : Behind) (fields : List Field) (x rest : List ℕ) (cause : H1Why) → IsTrailerSection L fields x → behind fields rest cause
+    → OfTrailers L behind (x ++ rest) cause
+trailers_whole L behind fields x rest cause h says =
+    let section : IsSection fields (take (length x) (x ++ rest)) = subst (IsSection fields) (sym (take-append_seam x rest)) h.1 in
+    inr (inr (record {
+      many = length x;
+      ends = trailers_end fields x rest h.1;
+      within = h.0;
+      says = inr (λ n. n fields section, (fields, section, subst (λ (z : List ℕ). behind fields z cause) (sym (drop_seam x rest)) says));
+    }))
+
 -- it ends, and is field lines
 pub trailers_over : (L : Bounds) (most : ℕ) (seen x : List ℕ) (fields : List Field) → L.section ≡ Some most → length (seen ++ x) ≤ most → IsSection fields (seen ++ x)
     → Moves L (in_trailers seen) x [] (over fields)
@@ -173,6 +196,9 @@ trailers_over L most seen x fields e fits section = moves_by L (in_trailers seen
           subst (IsSection trailers) whole (subst (λ (fs : List Field). IsSection fs (seen ++ x)) (sym r.1) section),
         ),
       );
-  causes = λ more cause h. absurd h;
+  causes = λ behind more cause h.
+      subst (λ (z : List ℕ). OfTrailers L behind z cause) (append_assoc seen x more)
+      (trailers_whole L behind fields (seen ++ x) more cause (subst (λ (o : Option ℕ). IsWithin o (length (seen ++ x))) (sym e) fits, section) h);
   marks = section_marks seen x fields;
+  kind = refl;
 })

@@ -12,6 +12,7 @@ use Rattle.h1_spec.specs.Grammar.{Is, crlf}
 use Rattle.h1_spec.specs.Bodies.{IsTrailerSection, IsChunked, IsBody}
 use Rattle.h1_spec.specs.Causes.{Causes, ◌when◌else◌}
 use Rattle.h1_spec.specs.BodyCauses.{CanBegin, OfChunk, OfTrailers, OfBody, Behind}
+use Rattle.h1_spec.specs.Translation.{OfEnd}
 use Rattle.h1_spec.specs.ChunkStates.{InLine, in_digits, in_blanks, in_extension, behind_cr as cr_in_line, line_ended, next_state, Completes}
 use Rattle.h1_spec.specs.Residuals.{IsResidual}
 
@@ -58,6 +59,17 @@ may_end behind_chunk = false
 may_end behind_cr = false
 may_end (in_trailers seen) = false
 may_end (over found) = true
+
+-- It is a body of chunks: bytes of it stand for a trailer section.
+abbrev pub is_chunked : At → Bool
+is_chunked (in_count missing) = false
+is_chunked to_end = false
+is_chunked (in_line state room) = true
+is_chunked (in_chunk missing) = true
+is_chunked behind_chunk = true
+is_chunked behind_cr = true
+is_chunked (in_trailers seen) = true
+is_chunked (over found) = true
 
 -- the trailer section that was read
 abbrev pub trailers_of : At → List Field
@@ -235,11 +247,14 @@ pub record AreMarked (v : At) (bytes content : List ℕ) (w : At) : Type 0 where
 -- ---- steps
 
 -- The bytes, with this content, make w of v: what completes the body from v behind them is what completes it from w, and what is wrong
--- from w is wrong from v; and so their marks.
+-- from w is wrong from v, also what a message says behind its body; and so their marks.
 pub record Moves (L : Bounds) (v : At) (bytes content : List ℕ) (w : At) : Type 0 where
   pub rest : IsResidual (RestOf L v) bytes (behind_content content) (RestOf L w)
   pub causes : (more : List ℕ) (cause : H1Why) → OfRest L nothing_behind w more cause → OfRest L nothing_behind v (bytes ++ more) cause
+  pub ends : (named : List (List ℕ)) (more : List ℕ) (cause : H1Why) → OfRest L (OfEnd L named) w more cause
+      → OfRest L (OfEnd L named) v (bytes ++ more) cause
   pub marks : AreMarked v bytes content w
+  pub kind : is_chunked v ≡ is_chunked w
 
 -- From the start what completes a body is a body, and what is wrong is wrong with a body.
 pub record Starts (L : Bounds) (framing : Framing1) : Type 0 where
@@ -259,3 +274,4 @@ pub record IsRefusedFrom (section : ℕ) (v : At) (piece : List ℕ) (cause : H1
   pub none : (L : Bounds) → L.section ≡ Some section → Moves L v (take at piece) [] behind
   pub before : (L : Bounds) → L.section ≡ Some section → OfRest L nothing_behind v (take at piece) why.Ended
   pub decided : (L : Bounds) → L.section ≡ Some section → (after : List ℕ) → OfRest L nothing_behind v (take (at + 1) piece ++ after) cause
+  pub not_end : cause ≡ why.Ended → ⊥

@@ -4,6 +4,7 @@ use Rattle.bh_spec.specs.Bounds.{Bounds, IsWithin}
 use Rattle.bh_spec.specs.Bytes.{AreBytes}
 use Rattle.bh_spec.specs.Messages.{Field, Interim, Start, request, response, Message, IsInterimStatus}
 use Rattle.bh_spec.specs.Canonical.{FieldsFit, Fits}
+use Rattle.bh_spec.specs.Items.{of_request, of_response, Head as Said}
 use Rattle.h1_spec.specs.declared.Scheme1.{Scheme1}
 use Rattle.bh_spec.specs.Texts.{◌then◌, AreEach}
 use Rattle.h1_spec.specs.Heads.{request_line, status_line, Head, IsHead}
@@ -29,6 +30,11 @@ pub record IsInterimHead (L : Bounds) (interim : Interim) (bytes : List ℕ) : T
 abbrev pub interims_of : Start → List Interim
 interims_of (request control) = []
 interims_of (response interims status) = interims
+
+-- what a head says alone, without the informational responses before it
+abbrev pub start_of : Said → Start
+start_of (of_request control) = request control
+start_of (of_response status) = response [] status
 
 -- What the start line of a request, or of a final response, says.
 abbrev pub IsStartOf : Scheme1 → Head → Start → Type 0

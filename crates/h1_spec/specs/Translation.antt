@@ -60,11 +60,16 @@ OfStart L scheme to_head interims head rest (status_line status) = why.Switching
     else why.HeadLimit when (FieldsFit L (clean (hops head.fields) false head.fields) → ⊥)
     else λ cause. (200 ≤ status) × OfFraming L to_head head rest cause
 
-abbrev pub OfHead : Bounds → Scheme1 → Bool → List Interim → List ℕ → Causes
-OfHead L scheme to_head interims bytes = OfSection (EndsAt bytes) L.section bytes why.HeadLimit (λ section rest.
+-- the bytes of a head up to its end, before the rest of the input
+abbrev pub OfWholeHead : Bounds → Scheme1 → Bool → List Interim → List ℕ → List ℕ → Causes
+OfWholeHead L scheme to_head interims section rest =
     why.HeadForm when ((head : Head) → IsHead head section → IsNextStart interims head.start → ⊥)
     else λ cause. (head : Head) × IsHead head section × IsNextStart interims head.start
-    × OfStart L scheme to_head interims head rest head.start cause)
+    × OfStart L scheme to_head interims head rest head.start cause
+
+-- a head whose end is looked for
+abbrev pub OfHead : Bounds → Scheme1 → Bool → List Interim → List ℕ → Causes
+OfHead L scheme to_head interims bytes = OfSection (EndsAt bytes) L.section bytes why.HeadLimit (OfWholeHead L scheme to_head interims)
 
 -- The bytes are no message, for this cause: behind the heads of some informational responses.
 pub record IsCause (L : Bounds) (scheme : Scheme1) (to_head : Bool) (bytes : List ℕ) (cause : H1Why) : Type 0 where

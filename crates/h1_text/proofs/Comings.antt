@@ -10,12 +10,14 @@ use Rattle.bh_model.specs.Ranges.{AreLimits}
 use Rattle.bh_reading.specs.Coming as binary
 use Rattle.bh_reading.proofs.Coming.{comes_at_start}
 use Rattle.h1_spec.specs.Cleaning.{without, hops, clean, says_host}
+use Rattle.h1_spec.specs.Http1.{start_of}
 use Rattle.h1_rules.specs.Own.{dropped_names}
 use Rattle.h1_rules.proofs.Cookies.{without_room, one_room}
-use Rattle.h1_judge.specs.Courses.{start_of, named_behind, cleaned_items}
+use Rattle.h1_judge.specs.Courses.{named_behind, cleaned_items}
 use Rattle.h1_judge.specs.Views as judged
 use Rattle.h1_judge.specs.Views.{JudgedView}
-use Rattle.h1_judge.proofs.Rooms.{room_lines, within_at}
+use Rattle.h1_judge.proofs.Rooms.{room_lines}
+use Rattle.h1_rules.proofs.Within.{within_at}
 use Rattle.h1_text.specs.Writers.{Writing, before_all, IsAtStart, HasRoom, BodyComes, EndComes, MessageComes, takes}
 use Rattle.h1_text.proofs.Room.{request_room}
 

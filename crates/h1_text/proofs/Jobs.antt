@@ -12,6 +12,7 @@ use Rattle.h1_spec.specs.Grammar.{crlf}
 use Rattle.h1_spec.specs.Framing.{lengths}
 use Rattle.h1_spec.specs.Http1Text.{field_lines, interim_text, status_text, framing_by}
 use Rattle.h1_spec.specs.Written.{text_of_head, response_written, coding_line}
+use Rattle.h1_spec.specs.Http1.{start_of}
 use Rattle.bh_stream.specs.Outputs.{Output, written, shown_in, plain}
 use Rattle.bh_stream.specs.Logs.{Begins}
 use Rattle.bh_stream.specs.Decoding.{content_items}
@@ -21,7 +22,7 @@ use Rattle.bh_stream.proofs.Outputs.{written_plain, shown-append, shown_plain}
 use Rattle.bh_stream.specs.Tails.{content_of, trailers_of}
 use Rattle.bh_stream.proofs.Tails.{content_behind, trailers_behind}
 use Rattle.h1_text.specs.Gathering.{GatheredView}
-use Rattle.h1_text.specs.Owed.{body_out, is_chunked, is_none, is_open, has_body, says_chunks, head_front, head_end, final_out, start_of, Duty, at_start, head_held, in_body, all_done, owed, held}
+use Rattle.h1_text.specs.Owed.{body_out, is_chunked, is_none, is_open, has_body, says_chunks, head_front, head_end, final_out, Duty, at_start, head_held, in_body, all_done, owed, held}
 use Rattle.h1_text.specs.Ends.{end_out}
 use Rattle.h1_text.specs.Holding.{Keeps}
 use Rattle.h1_text.specs.Writers.{Writing, before_all, BodyComes, EndComes, takes, IsBehindHead, JobSends, duty_of, writing_of, IsStage}

@@ -12,11 +12,12 @@ use Rattle.h1_spec.specs.Grammar.{crlf}
 use Rattle.h1_spec.specs.Http1Text.{field_line, field_lines, interim_text, start_line, said_host, head_text, chunk_text, framing_written, coding_lines, interims_text, body_text}
 use Rattle.h1_spec.specs.Written.{last_text, coding_line}
 use Rattle.h1_spec.specs.Laws.{LeavesOut}
+use Rattle.h1_spec.specs.Http1.{start_of}
 use Rattle.bh_stream.specs.Outputs.{written, plain}
 use Rattle.bh_stream.proofs.Outputs.{written-append, written_plain}
 use Rattle.bh_stream.specs.Tails.{trailers_of}
 use Rattle.bh_stream.proofs.Tails.{content_behind, trailers_behind, no_content}
-use Rattle.h1_text.specs.Owed.{body_out, is_chunked, start_of, head_front, head_end, final_out, message_of, at_start, owed, body_sent, text_sent}
+use Rattle.h1_text.specs.Owed.{body_out, is_chunked, head_front, head_end, final_out, message_of, at_start, owed, body_sent, text_sent}
 use Rattle.h1_text.specs.Laws.{OwesTheText, IsTheText}
 use Rattle.h1_text.proofs.Owing.{body_bytes}
 

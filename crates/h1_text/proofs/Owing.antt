@@ -14,12 +14,13 @@ use Rattle.h1_spec.specs.Framing.{lengths}
 use Rattle.h1_spec.specs.Moments.{announced}
 use Rattle.h1_spec.specs.Http1Text.{hex_within, chunk_text, framing_written, framing_by, is_bare}
 use Rattle.h1_spec.specs.Written.{last_text}
+use Rattle.h1_spec.specs.Http1.{start_of}
 use Rattle.bh_stream.specs.Outputs.{Output, written, shown_in, plain, shown}
 use Rattle.bh_stream.proofs.Outputs.{written-append, shown-append, written_plain, written_shown, shown_plain, shown_shown}
 use Rattle.bh_stream.specs.Tails.{content_of, trailers_of}
 use Rattle.bh_stream.proofs.Tails.{content_behind, trailers_behind}
 use Rattle.h1_text.specs.Ends.{piece_out}
-use Rattle.h1_text.specs.Owed.{chunk_out, body_out, is_chunked, start_of, head_front, head_end, final_out, is_none, is_open, says_chunks, has_body, message_of, head_held, in_body, at_start, owed}
+use Rattle.h1_text.specs.Owed.{chunk_out, body_out, is_chunked, head_front, head_end, final_out, is_none, is_open, says_chunks, has_body, message_of, head_held, in_body, at_start, owed}
 
 -- ---- cutting
 

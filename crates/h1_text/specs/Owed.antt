@@ -1,6 +1,6 @@
 -- What is still to be written of the HTTP/1.1 text of a clean message, by the items that are still to come (RFC 9112).
 use Rattle.std.specs.Prelude.{ℕ, Bool, true, false, List, [], ◌∷◌, ◌++◌, length, flat_map}
-use Rattle.bh_spec.specs.Messages.{Field, Start, request, response, Message}
+use Rattle.bh_spec.specs.Messages.{Field, Start, Message}
 use Rattle.bh_spec.specs.Canonical.{cut}
 use Rattle.bh_spec.specs.Items.{Item, interim_response, head, content_byte, trailer_section, ending, Head, of_request, of_response}
 use Rattle.h1_spec.specs.declared.Framing1.{Framing1}
@@ -10,6 +10,7 @@ use Rattle.h1_spec.specs.Framing.{lengths}
 use Rattle.h1_spec.specs.Moments.{announced}
 use Rattle.h1_spec.specs.Http1Text.{field_lines, interim_text, start_line, said_host, hex_within, head_text, body_text, interims_text, framing_written}
 use Rattle.h1_spec.specs.Written.{last_text, coding_line}
+use Rattle.h1_spec.specs.Http1.{start_of}
 use Rattle.bh_stream.specs.Outputs.{Output, plain, shown}
 use Rattle.bh_stream.specs.Tails.{content_of, trailers_of}
 
@@ -32,10 +33,6 @@ is_chunked Chunked = true
 is_chunked ToEnd = false
 
 -- ---- heads
-
-abbrev pub start_of : Head → Start
-start_of (of_request control) = request control
-start_of (of_response status) = response [] status
 
 -- a head up to what its body decides: the start line, the host that the control data says, and the fields
 abbrev pub head_front : Start → List Field → List ℕ

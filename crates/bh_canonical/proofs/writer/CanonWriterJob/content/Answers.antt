@@ -1,9 +1,9 @@
-use Rattle.std.proofs.Common.{◌≡◌, ◌≤◌, ◌-◌, ℕ, List, ◌∷◌, ◌++◌, length, take, drop, map, Ok, refl, ap, subst, sym, ◌∙◌, arith, length-drop, length-take, length-append}
+use Rattle.std.proofs.Common.{◌≡◌, ◌≤◌, ℕ, List, ◌∷◌, ◌++◌, length, take, drop, map, Ok, refl, ap, subst, sym, ◌∙◌, arith, length-drop, length-take, length-append}
 use Rattle.std.proofs.lemmas.Grind.{common_steps}
 use Rattle.bh_spec.specs.Items.{Item, content_byte}
 use Rattle.bh_canonical.specs.Writers.{Writing, takes, writing_of}
 use Rattle.bh_canonical.proofs.Sent.{JobSends, is_in_content, content_kept, chunk_written, cut_at, framed_more, framed_is}
-use Rattle.bh_canonical.proofs.writer.CanonWriterJobReading.content.Goals as goal
+use Rattle.bh_canonical.proofs.writer.CanonWriterJob.content.Goals as goal
 
 pub returns-then-bytes-room : goal.returns-then-bytes-room
 returns-then-bytes-room g c =

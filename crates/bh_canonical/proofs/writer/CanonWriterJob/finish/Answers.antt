@@ -1,6 +1,6 @@
 use Rattle.std.proofs.Common.{drop, ap, sym, ◌∙◌}
 use Rattle.bh_canonical.proofs.Sent.{finish_went, finish_none}
-use Rattle.bh_canonical.proofs.writer.CanonWriterJobReading.finish.Goals as goal
+use Rattle.bh_canonical.proofs.writer.CanonWriterJob.finish.Goals as goal
 
 pub returns-in-Content : goal.returns-in-Content
 returns-in-Content g c =
