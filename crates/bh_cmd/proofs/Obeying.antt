@@ -4,14 +4,13 @@ use Rattle.std.specs.declared.alloc.Global.{Global}
 use Rattle.bh_spec.specs.Bounds.{Bounds}
 use Rattle.bh_base.specs.Steps.{Step, Meanings, Rose, Entry}
 use Rattle.bh_words.specs.declared.commands.Command.{Command}
-use Rattle.bh_words.specs.declared.commands.Command.TheVariants.{Canon, Check, Show, ToHttp1, Trial}
+use Rattle.bh_words.specs.declared.commands.Command.TheVariants.{Canon, Check, Show, FromHttp1, ToHttp1, Trial}
 use Rattle.bh_words.specs.Words.{IsCommand}
 use Rattle.bh_words.specs.Settings.{Finds}
 use Rattle.bh_words.proofs.Meaning.{one_command}
 use Rattle.bh_cmd.specs.declared.exits.Exit.{Exit}
 use Rattle.bh_cmd.specs.declared.exits.Exit.TheVariants as exits
-use Rattle.bh_cmd.proofs.Ended.{not_made, not_checked}
-use Rattle.bh_cmd.proofs.Translated.{not_translated}
+use Rattle.bh_cmd.proofs.Ended.{not_run, not_checked}
 use Rattle.bh_cmd.proofs.Trying.{not_tried}
 use Rattle.bh_cmd.specs.Runs.{Mean, MeanNothing, CanRun, TrialExitFacts, Performs, RunFacts}
 
@@ -26,6 +25,7 @@ pub can_run : (words : List (String Global)) (command : Command) → Mean words 
 can_run words (Canon L) is = tt
 can_run words (Check L) is = tt
 can_run words (Show L) is = tt
+can_run words (FromHttp1 L scheme to_head) is = tt
 can_run words (ToHttp1 L to_head) is = tt
 can_run words (Trial n) is = is.meant.most
 
@@ -35,6 +35,7 @@ module _ (S : Type 0) (read write : S → Step → S → Type 0) (port : Meaning
   not_usage (Canon L) exits.Usage h e = h.call
   not_usage (Check L) exits.Usage h e = h.call
   not_usage (Show L) exits.Usage h e = h.call
+  not_usage (FromHttp1 L scheme to_head) exits.Usage h e = h.call
   not_usage (ToHttp1 L to_head) exits.Usage h e = h.call
   not_usage (Trial n) exits.Usage h e = h.run.outcome
   not_usage command other h e = absurd cc
@@ -43,6 +44,7 @@ module _ (S : Type 0) (read write : S → Step → S → Type 0) (port : Meaning
   not_door (Canon L) exits.DoorFault h e = h.call
   not_door (Check L) exits.DoorFault h e = h.call
   not_door (Show L) exits.DoorFault h e = h.call
+  not_door (FromHttp1 L scheme to_head) exits.DoorFault h e = h.call
   not_door (ToHttp1 L to_head) exits.DoorFault h e = h.call
   not_door (Trial n) exits.DoorFault h e = h.run.outcome
   not_door command other h e = absurd cc
@@ -51,6 +53,7 @@ module _ (S : Type 0) (read write : S → Step → S → Type 0) (port : Meaning
   not_shelf (Canon L) exits.ShelfFault h e = h.call
   not_shelf (Check L) exits.ShelfFault h e = h.call
   not_shelf (Show L) exits.ShelfFault h e = h.call
+  not_shelf (FromHttp1 L scheme to_head) exits.ShelfFault h e = h.call
   not_shelf (ToHttp1 L to_head) exits.ShelfFault h e = h.call
   not_shelf (Trial n) exits.ShelfFault h e = h.run.outcome
   not_shelf command other h e = absurd cc
@@ -60,31 +63,35 @@ module _ (S : Type 0) (read write : S → Step → S → Type 0) (port : Meaning
   no_read_fault n other h e = absurd cc
 
   read_rises : (command : Command) (exit : Exit) → Performs command read write port log s exit t → exit ≡ exits.ReadFault → Rose (port.read_faults s) (port.read_faults t)
-  read_rises (Canon L) exit h e = h.read_fault e
+  read_rises (Canon L) exit h e = h.counts.read_fault e
   read_rises (Check L) exit h e = h.read_fault e
-  read_rises (Show L) exit h e = h.read_fault e
-  read_rises (ToHttp1 L to_head) exit h e = h.read_fault e
+  read_rises (Show L) exit h e = h.counts.read_fault e
+  read_rises (FromHttp1 L scheme to_head) exit h e = h.counts.read_fault e
+  read_rises (ToHttp1 L to_head) exit h e = h.counts.read_fault e
   read_rises (Trial n) exit h e = absurd (no_read_fault n exit h e)
 
   write_rises : (command : Command) (exit : Exit) → Performs command read write port log s exit t → exit ≡ exits.WriteFault → Rose (port.write_faults s) (port.write_faults t)
-  write_rises (Canon L) exit h = h.write_fault
+  write_rises (Canon L) exit h = h.counts.write_fault
   write_rises (Check L) exit h = λ e. absurd (h.write_fault e)
-  write_rises (Show L) exit h = h.write_fault
-  write_rises (ToHttp1 L to_head) exit h = h.write_fault
+  write_rises (Show L) exit h = h.counts.write_fault
+  write_rises (FromHttp1 L scheme to_head) exit h = h.counts.write_fault
+  write_rises (ToHttp1 L to_head) exit h = h.counts.write_fault
   write_rises (Trial n) exit h = h.write_fault
 
   reads_stay : (command : Command) (exit : Exit) → Performs command read write port log s exit t → (exit ≡ exits.ReadFault → ⊥) → port.read_faults t ≡ port.read_faults s
-  reads_stay (Canon L) exit h still = h.quiet_reads still
+  reads_stay (Canon L) exit h still = h.counts.quiet_reads still
   reads_stay (Check L) exit h still = h.quiet_reads still
-  reads_stay (Show L) exit h still = h.quiet_reads still
-  reads_stay (ToHttp1 L to_head) exit h still = h.quiet_reads still
+  reads_stay (Show L) exit h still = h.counts.quiet_reads still
+  reads_stay (FromHttp1 L scheme to_head) exit h still = h.counts.quiet_reads still
+  reads_stay (ToHttp1 L to_head) exit h still = h.counts.quiet_reads still
   reads_stay (Trial n) exit h still = h.quiet_reads
 
   writes_stay : (command : Command) (exit : Exit) → Performs command read write port log s exit t → (exit ≡ exits.WriteFault → ⊥) → port.write_faults t ≡ port.write_faults s
-  writes_stay (Canon L) exit h = h.quiet_writes
+  writes_stay (Canon L) exit h = h.counts.quiet_writes
   writes_stay (Check L) exit h = λ still. h.quiet_writes
-  writes_stay (Show L) exit h = h.quiet_writes
-  writes_stay (ToHttp1 L to_head) exit h = h.quiet_writes
+  writes_stay (Show L) exit h = h.counts.quiet_writes
+  writes_stay (FromHttp1 L scheme to_head) exit h = h.counts.quiet_writes
+  writes_stay (ToHttp1 L to_head) exit h = h.counts.quiet_writes
   writes_stay (Trial n) exit h = h.quiet_writes
 
   pub obeyed : (words : List (String Global)) (command : Command) → Mean words command → (exit : Exit) → Performs command read write port log s exit t
@@ -119,10 +126,11 @@ module _ (S : Type 0) (read write : S → Step → S → Type 0) (port : Meaning
   }
 
   not_begun : (command : Command) → Performs command read write port log s exits.NoMemory s
-  not_begun (Canon L) = not_made
+  not_begun (Canon L) = not_run
   not_begun (Check L) = not_checked
-  not_begun (Show L) = not_made
-  not_begun (ToHttp1 L to_head) = not_translated
+  not_begun (Show L) = not_run
+  not_begun (FromHttp1 L scheme to_head) = not_run
+  not_begun (ToHttp1 L to_head) = not_run
   not_begun (Trial n) = not_tried n
 
   pub not_read : RunFacts words read write port log s exits.NoMemory s

@@ -6,6 +6,7 @@ use Rattle.std.specs.declared.alloc.Global.{Global}
 use Rattle.bh_spec.specs.declared.Summary.{Summary}
 use Rattle.bh_spec.specs.Bounds.{Bounds, default_bounds}
 use Rattle.bh_spec.specs.Answers.{Answer, refused, IsAnswer}
+use Rattle.bh_model.specs.declared.causes.Cause.{Cause}
 use Rattle.bh_model.specs.declared.causes.Cause.TheVariants.{Binary, Http1, Form}
 use Rattle.bh_base.specs.Steps.{Step, Chain, Either, Entry, Meanings, Rose, given, IsQuiet, StopsAt, is_bad_write}
 use Rattle.bh_listing.specs.Shown.{Shown}
@@ -16,7 +17,7 @@ use Rattle.bh_spec.specs.Canonical.{canon}
 use Rattle.bh_spec.specs.Listing.{show}
 use Rattle.bh_spec.specs.Viable.{IsMessageText}
 use Rattle.bh_stream.specs.Logs.{HasBody}
-use Rattle.bh_stream.specs.Telling.{IsLogged}
+use Rattle.bh_stream.specs.Telling.{CountsBy, IsLogged}
 use Rattle.bh_stream.specs.declared.streaming.End.{End}
 use Rattle.bh_canon.specs.Ends.{IsCanon, end_of}
 use Rattle.bh_canon.specs.Calls.{CanonCall, ShowCall, SourceCheck}
@@ -25,9 +26,11 @@ use Rattle.bh_words.specs.declared.commands.Command.{Command}
 use Rattle.bh_words.specs.Words.{IsCommand}
 use Rattle.bh_cmd.specs.declared.exits.Exit.{Exit}
 use Rattle.bh_cmd.specs.declared.exits.Exit.TheVariants.{Done, Refused, Usage, ReadFault, WriteFault, NoMemory, DoorFault, ShelfFault}
-use Rattle.bh_words.specs.declared.commands.Command.TheVariants.{Canon, Check, Show, ToHttp1, Trial}
+use Rattle.bh_words.specs.declared.commands.Command.TheVariants.{Canon, Check, Show, FromHttp1, ToHttp1, Trial}
+use Rattle.h1_spec.specs.declared.Scheme1.{Scheme1}
+use Rattle.bh_translate.specs.From.{FromCall, FromTold, FromCompletes, FromLog}
 use Rattle.bh_translate.specs.Into.{IntoCall, IntoTold, IntoCompletes, IntoLog}
-use Rattle.bh_cmd.specs.Exits.{EndsSo, TranslatesSo, exit_of}
+use Rattle.bh_cmd.specs.Exits.{EndsBy, EndsSo, as_binary, as_translation, as_http1, exit_of}
 use Rattle.bh_cmd.specs.Trials.{trial}
 
 -- the words mean the command, and they mean none
@@ -42,6 +45,7 @@ abbrev pub CanRun : Command → Type 0
 CanRun (Canon L) = Unit {0}
 CanRun (Check L) = Unit {0}
 CanRun (Show L) = Unit {0}
+CanRun (FromHttp1 L scheme to_head) = Unit {0}
 CanRun (ToHttp1 L to_head) = Unit {0}
 CanRun (Trial n) = n ≤ 67108864
 
@@ -53,18 +57,34 @@ pub record IsPrinted {S : Type 0} (write : S → Step → S → Type 0) (sent : 
   pub told : Appends (sent s) (sent t) (given steps)
   pub all : ((given steps ≡ line) × (faults t ≡ faults s)) ⊎ ((rest : List ℕ) × (line ≡ given steps ++ rest) × Rose (faults s) (faults t))
 
--- What a run of a command that writes this output of a message did, under these limits: by the calls of the port, by what it tells, by
--- its log and by its counts of faults. Where memory ran out, the port is as it was.
-pub record WritingRun (L : Bounds) (output : Message → List ℕ) (Shown : List ℕ → ℕ → Type 0) (most : ℕ) {S : Type 0}
-    (Call : End Summary Refusal → Type 0) (port : Meanings S) (log : S → Option (List Entry)) (s : S) (exit : Exit) (t : S) : Type 0 where
-  pub call : EndsSo exit (t ≡ s) Call
-  pub told : EndsSo exit (t ≡ s) (λ r. IsTold L output port s r t)
-  pub complete : EndsSo exit (t ≡ s) (λ r. IsComplete L port s r t)
-  pub logged : EndsSo exit (t ≡ s) (λ r. IsLogged (KeepsLog L output Shown most) (log s) (log t))
-  pub read_fault : exit ≡ ReadFault → Rose (port.read_faults s) (port.read_faults t)
-  pub write_fault : exit ≡ WriteFault → Rose (port.write_faults s) (port.write_faults t)
-  pub quiet_reads : (exit ≡ ReadFault → ⊥) → port.read_faults t ≡ port.read_faults s
-  pub quiet_writes : (exit ≡ WriteFault → ⊥) → port.write_faults t ≡ port.write_faults s
+-- What a run of a command over a port did, by the calls of the port, by what it tells, by its log and by its counts of faults. `of` says
+-- which causes are refusals of such a command. Where memory ran out, the port is as it was.
+pub record PortRun {R : Type 0} (of : Cause → Option R) (Call Told Completes : End Summary R → Type 0) (Logged : Type 0)
+    {S : Type 0} (port : Meanings S) (s : S) (exit : Exit) (t : S) : Type 0 where
+  pub call : EndsBy of exit (t ≡ s) Call
+  pub told : EndsBy of exit (t ≡ s) Told
+  pub complete : EndsBy of exit (t ≡ s) Completes
+  pub logged : EndsBy of exit (t ≡ s) (λ r. Logged)
+  pub counts : CountsBy ReadFault WriteFault port s exit t
+
+-- a command that writes this output of a message, under these limits
+abbrev pub WritingRun : Bounds → (Message → List ℕ) → (List ℕ → ℕ → Type 0) → ℕ → {S : Type 0} → (End Summary Refusal → Type 0)
+    → Meanings S → (S → Option (List Entry)) → S → Exit → S → Type 0
+WritingRun L output Shown most Call port log s exit t = PortRun as_binary Call (λ r. IsTold L output port s r t)
+    (λ r. IsComplete L port s r t) (IsLogged (KeepsLog L output Shown most) (log s) (log t)) port s exit t
+
+-- `to-http1`
+abbrev pub TranslatingRun : Bounds → Bool → {S : Type 0} → (S → Step → S → Type 0) → (S → Step → S → Type 0) → Meanings S
+    → (S → Option (List Entry)) → S → Exit → S → Type 0
+TranslatingRun L to_head read write port log s exit t = PortRun as_translation (λ r. IntoCall L to_head read write s r t)
+    (λ r. IntoTold L to_head port s r t) (λ r. IntoCompletes L to_head port s r t) (IsLogged (IntoLog L to_head) (log s) (log t)) port s exit t
+
+-- `from-http1`
+abbrev pub ReadingRun : Bounds → Scheme1 → Bool → {S : Type 0} → (S → Step → S → Type 0) → (S → Step → S → Type 0) → Meanings S
+    → (S → Option (List Entry)) → S → Exit → S → Type 0
+ReadingRun L scheme to_head read write port log s exit t = PortRun as_http1 (λ r. FromCall L scheme to_head read write s r t)
+    (λ r. FromTold L scheme to_head port s r t) (λ r. FromCompletes L scheme to_head port s r t)
+    (IsLogged (FromLog L scheme to_head) (log s) (log t)) port s exit t
 
 -- What a run of `check` did. Nothing was sent.
 pub record CheckRun (L : Bounds) {S : Type 0} (read : S → Step → S → Type 0) (port : Meanings S) (s : S) (exit : Exit) (t : S)
@@ -77,18 +97,6 @@ pub record CheckRun (L : Bounds) {S : Type 0} (read : S → Step → S → Type 
   pub write_fault : exit ≡ WriteFault → ⊥
   pub quiet_reads : (exit ≡ ReadFault → ⊥) → port.read_faults t ≡ port.read_faults s
   pub quiet_writes : port.write_faults t ≡ port.write_faults s
-
--- What a run of `to-http1` did, under these limits, in the same words. Where memory ran out, the port is as it was.
-pub record TranslatingRun (L : Bounds) (to_head : Bool) {S : Type 0} (read write : S → Step → S → Type 0) (port : Meanings S)
-    (log : S → Option (List Entry)) (s : S) (exit : Exit) (t : S) : Type 0 where
-  pub call : TranslatesSo exit (t ≡ s) (λ r. IntoCall L to_head read write s r t)
-  pub told : TranslatesSo exit (t ≡ s) (λ r. IntoTold L to_head port s r t)
-  pub complete : TranslatesSo exit (t ≡ s) (λ r. IntoCompletes L to_head port s r t)
-  pub logged : TranslatesSo exit (t ≡ s) (λ r. IsLogged (IntoLog L to_head) (log s) (log t))
-  pub read_fault : exit ≡ ReadFault → Rose (port.read_faults s) (port.read_faults t)
-  pub write_fault : exit ≡ WriteFault → Rose (port.write_faults s) (port.write_faults t)
-  pub quiet_reads : (exit ≡ ReadFault → ⊥) → port.read_faults t ≡ port.read_faults s
-  pub quiet_writes : (exit ≡ WriteFault → ⊥) → port.write_faults t ≡ port.write_faults s
 
 -- The line of a trial whose engine ended with this summary: its four numbers are those of its input and of the canonical text.
 pub record IsTrialLine (n : ℕ) (s : Summary) (line : List ℕ) : Type 0 where
@@ -151,6 +159,7 @@ Performs (Canon L) read write port log s exit t =
     WritingRun L canon (HasBody (IsMessageText L)) 16383 (λ r. CanonCall L read write s r t) port log s exit t
 Performs (Check L) read write port log s exit t = CheckRun L read port s exit t
 Performs (Show L) read write port log s exit t = WritingRun L show Shown 8223 (λ r. ShowCall L read write s r t) port log s exit t
+Performs (FromHttp1 L scheme to_head) read write port log s exit t = ReadingRun L scheme to_head read write port log s exit t
 Performs (ToHttp1 L to_head) read write port log s exit t = TranslatingRun L to_head read write port log s exit t
 Performs (Trial n) read write port log s exit t = TrialExitFacts n write port s exit t
 

@@ -3,14 +3,16 @@ ghost use Rattle.std.specs.Prelude.{◌≡◌, ◌∷◌, ℕ, IfOk, MatchOption
 ghost use Rattle.clap.specs.Words.{first_value, found_of};
 ghost use Rattle.bh_spec.specs.Bounds.{Bounds};
 ghost use Rattle.bh_words.specs.Settings.{Finds};
-ghost use Rattle.bh_words.specs.Words.{IsCommand, AreGiven, IsTrial, MeanLimits, MeanInto, MeanTrial};
+ghost use Rattle.bh_words.specs.Words.{IsCommand, AreGiven, IsTrial, MeanLimits, MeanFrom, MeanInto, MeanTrial};
 
-use crate::forms::{INTO, LIMITED, TRIAL};
+use crate::forms::{FROM, INTO, LIMITED, TRIAL};
 use crate::numbers::{given, number};
 use crate::reader::read;
+use crate::schemes::given_scheme;
 use bh_base::NoMemory;
 use bh_model::Limits;
 use clap::ArgMatches;
+use h1_spec::Scheme1;
 use std::alloc::{AllocError, Global};
 
 /// A command, with what its words say.
@@ -22,8 +24,17 @@ pub enum Command {
     Check(Limits),
     /// List a message.
     Show(Limits),
+    /// Translate a message from HTTP/1.1; `scheme`: that of a request whose target names none; `to_head`: a response answers HEAD.
+    FromHttp1 {
+        limits: Limits,
+        scheme: Scheme1,
+        to_head: bool,
+    },
     /// Translate a message to HTTP/1.1; `to_head`: a response answers HEAD.
-    ToHttp1 { limits: Limits, to_head: bool },
+    ToHttp1 {
+        limits: Limits,
+        to_head: bool,
+    },
     /// Make a message with so many bytes of content, and make it canonical.
     Trial(u64),
 }
@@ -59,6 +70,22 @@ fn limited(alloc: Global, words: &[String]) -> Result<Option<Limits>, NoMemory>
 {
     match read(alloc, words, LIMITED)? {
         Some(matches) => Ok(limits_of(&matches)),
+        None => Ok(None),
+    }
+}
+
+/// The limits, the scheme, and whether a response answers HEAD, that the words behind `from-http1` mean.
+fn from(alloc: Global, words: &[String]) -> Result<Option<(Limits, Scheme1, bool)>, NoMemory>
+    ensures { IfOk result (Finds (λ all. MeanFrom (map string_bytes words.now) all.0 all.1 all.2)) }
+{
+    match read(alloc, words, FROM)? {
+        Some(matches) => match limits_of(&matches) {
+            Some(limits) => match given_scheme(matches.get_str("scheme")) {
+                Some(scheme) => Ok(Some((limits, scheme, matches.get_flag("to-head")))),
+                None => Ok(None),
+            },
+            None => Ok(None),
+        },
         None => Ok(None),
     }
 }
@@ -116,6 +143,20 @@ fn show(alloc: Global, words: &[String]) -> Result<Option<Command>, NoMemory>
     }
 }
 
+/// `from-http1`, where the words behind its name mean it.
+fn from_http1(alloc: Global, words: &[String]) -> Result<Option<Command>, NoMemory>
+    ensures { IfOk result (Finds (IsCommand (codes "from-http1" ∷ map string_bytes words.now))) }
+{
+    match from(alloc, words)? {
+        Some((limits, scheme, to_head)) => Ok(Some(Command::FromHttp1 {
+            limits,
+            scheme,
+            to_head,
+        })),
+        None => Ok(None),
+    }
+}
+
 /// `to-http1`, where the words behind its name mean it.
 fn to_http1(alloc: Global, words: &[String]) -> Result<Option<Command>, NoMemory>
     ensures { IfOk result (Finds (IsCommand (codes "to-http1" ∷ map string_bytes words.now))) }
@@ -148,6 +189,9 @@ fn named(alloc: Global, name: &str, words: &[String]) -> Result<Option<Command>,
     }
     if name == "show" {
         return show(alloc, words);
+    }
+    if name == "from-http1" {
+        return from_http1(alloc, words);
     }
     if name == "to-http1" {
         return to_http1(alloc, words);

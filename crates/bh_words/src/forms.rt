@@ -15,6 +15,13 @@ pub(crate) const LIMITED: Form = Form {
     own: None,
 };
 
+/// `from-http1`.
+pub(crate) const FROM: Form = Form {
+    options: &["part", "section", "interims", "input", "scheme"],
+    switches: &["to-head"],
+    own: None,
+};
+
 /// `to-http1`.
 pub(crate) const INTO: Form = Form {
     options: &["part", "section", "interims", "input"],

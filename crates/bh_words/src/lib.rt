@@ -6,6 +6,7 @@ mod forms;
 mod laws;
 mod numbers;
 mod reader;
+mod schemes;
 mod shapes;
 #[cfg(test)]
 mod tests;

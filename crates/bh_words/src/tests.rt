@@ -2,6 +2,7 @@
 use super::{Command, parse};
 use crate::forms::Form;
 use crate::reader::read;
+use h1_spec::Scheme1;
 use std::alloc::Global;
 use std::test::Fail;
 
@@ -14,13 +15,14 @@ fn list_of(alloc: Global, text: &str) -> Result<Vec<String>, Fail> {
     Ok(words)
 }
 
-/// What words mean: `canon`, `check` or `show` with its limits; `to-http1` with its part and input limits, and whether a response
-/// answers HEAD; `trial` with its number; or no command.
+/// What words mean: `canon`, `check` or `show` with its limits; `from-http1` and `to-http1` with their part and input limits, the scheme
+/// of the first, and whether a response answers HEAD; `trial` with its number; or no command.
 #[derive(Clone, Copy, Debug, PartialEq, Eq)]
 enum Meant {
     Canon(u64, u64, u64, u64),
     Check(u64, u64, u64, u64),
     Show(u64, u64, u64, u64),
+    From(u64, u64, Scheme1, bool),
     Into(u64, u64, bool),
     Trial(u64),
     Nothing,
@@ -32,6 +34,11 @@ fn value_of(command: &Command) -> Meant {
         Command::Canon(l) => Meant::Canon(l.part(), l.section(), l.interims(), l.input()),
         Command::Check(l) => Meant::Check(l.part(), l.section(), l.interims(), l.input()),
         Command::Show(l) => Meant::Show(l.part(), l.section(), l.interims(), l.input()),
+        Command::FromHttp1 {
+            limits: l,
+            scheme,
+            to_head,
+        } => Meant::From(l.part(), l.input(), *scheme, *to_head),
         Command::ToHttp1 { limits: l, to_head } => Meant::Into(l.part(), l.input(), *to_head),
         Command::Trial(n) => Meant::Trial(*n),
     }
@@ -46,7 +53,7 @@ fn meaning(alloc: Global, text: &str) -> Result<Meant, Fail> {
 }
 
 /// Words, and what they mean.
-const ROWS: [(&str, Meant); 27] = [
+const ROWS: [(&str, Meant); 33] = [
     ("canon", Meant::Canon(8192, 65_536, 16, 1_099_511_627_776)),
     (
         "canon|--part|16",
@@ -112,6 +119,30 @@ const ROWS: [(&str, Meant); 27] = [
         "show|--interims=0|--section|17",
         Meant::Show(8192, 17, 0, 1_099_511_627_776),
     ),
+    (
+        "from-http1",
+        Meant::From(8192, 1_099_511_627_776, Scheme1::Https, false),
+    ),
+    (
+        "from-http1|--scheme|http",
+        Meant::From(8192, 1_099_511_627_776, Scheme1::Http, false),
+    ),
+    (
+        "from-http1|--scheme=http|--part|16",
+        Meant::From(16, 1_099_511_627_776, Scheme1::Http, false),
+    ),
+    (
+        "from-http1|--to-head|--scheme|https",
+        Meant::From(8192, 1_099_511_627_776, Scheme1::Https, true),
+    ),
+    (
+        "from-http1|--input=4|--scheme=https|--to-head",
+        Meant::From(8192, 4, Scheme1::Https, true),
+    ),
+    (
+        "from-http1|--to-head",
+        Meant::From(8192, 1_099_511_627_776, Scheme1::Https, true),
+    ),
     ("to-http1", Meant::Into(8192, 1_099_511_627_776, false)),
     (
         "to-http1|--to-head",
@@ -128,8 +159,8 @@ const ROWS: [(&str, Meant); 27] = [
 ];
 
 /// Words that mean nothing, a line each of these texts.
-const WRONG: [&str; 19] = [
-    "\n|\nCanon\ncanon \n--canon\n-\n--\n-h\n--help\nhelp\nchecks\nsho\nfrom-http1\nserve|8080\ncanon|",
+const WRONG: [&str; 21] = [
+    "\n|\nCanon\ncanon \n--canon\n-\n--\n-h\n--help\nhelp\nchecks\nsho\nfrom-http\nserve|8080\ncanon|",
     "canon|16\ncanon|canon\ncanon|-\ncanon|--\ncanon|-h\ncanon|--help\ncanon|--version\ncanon|--par|16",
     "canon|--Part|16\ncanon|-part|16\ncanon|--parts|16\ncanon|--=16\ncanon|--part16\ncanon|--scheme=http",
     "canon|--part\ncanon|--part=\ncanon|--part|\ncanon|--part=16=\ncanon|--part=16=16\ncanon|--part==16",
@@ -147,6 +178,8 @@ const WRONG: [&str; 19] = [
     "canon|--input=16|--input|16\ncanon|--input=16|--input=16\ncanon|--part=16|--section|16|--part|17",
     "trial\ntrial|\ntrial|5|5\ntrial|-5\ntrial|+5\ntrial|--part|16|5\ntrial|5|--input=16\ntrial|67108865",
     "trial|00000000000005\ntrial|0x5\ntrial|five\ncanon|--to-head\ntrial|5|--to-head\nto-http1|--scheme=http",
+    "from-http1|--scheme|ftp\nfrom-http1|--scheme=HTTP\nfrom-http1|--scheme|\nfrom-http1|--scheme=\nfrom-http1|--scheme",
+    "from-http1|--scheme|http|--scheme|https\nfrom-http1|--scheme=http|--scheme=http\nfrom-http1|http\nfrom-http1|--to-head=1",
     "to-http1|--to-head|--to-head\nto-http1|--to-head=1\nto-http1|--to-head|1\nto-http1|16",
 ];
 

@@ -1,4 +1,4 @@
-use Rattle.bh_words.specs.declared.commands.Command.TheVariants.{Canon, Check, Show, ToHttp1, Trial}
+use Rattle.bh_words.specs.declared.commands.Command.TheVariants.{Canon, Check, Show, FromHttp1, ToHttp1, Trial}
 use Rattle.bh_cmd.proofs.running.run.Goals as goal
 
 pub returns-clause-canon : goal.returns-clause-canon
@@ -36,6 +36,18 @@ returns-clause-check_complete g c = λ L is. (c.obey-exit.ensures.performs (Chec
 
 pub returns-clause-check_silent : goal.returns-clause-check_silent
 returns-clause-check_silent g c = λ L is. (c.obey-exit.ensures.performs (Check L) is).silent
+
+pub returns-clause-from_http1 : goal.returns-clause-from_http1
+returns-clause-from_http1 g c = λ L scheme to_head is. (c.obey-exit.ensures.performs (FromHttp1 L scheme to_head) is).call
+
+pub returns-clause-from_http1_told : goal.returns-clause-from_http1_told
+returns-clause-from_http1_told g c = λ L scheme to_head is. (c.obey-exit.ensures.performs (FromHttp1 L scheme to_head) is).told
+
+pub returns-clause-from_http1_complete : goal.returns-clause-from_http1_complete
+returns-clause-from_http1_complete g c = λ L scheme to_head is. (c.obey-exit.ensures.performs (FromHttp1 L scheme to_head) is).complete
+
+pub returns-clause-from_http1_log : goal.returns-clause-from_http1_log
+returns-clause-from_http1_log g c = λ L scheme to_head is. (c.obey-exit.ensures.performs (FromHttp1 L scheme to_head) is).logged
 
 pub returns-clause-to_http1 : goal.returns-clause-to_http1
 returns-clause-to_http1 g c = λ L to_head is. (c.obey-exit.ensures.performs (ToHttp1 L to_head) is).call

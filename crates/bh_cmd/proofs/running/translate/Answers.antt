@@ -1,8 +1,9 @@
-use Rattle.bh_cmd.proofs.Translated.{translated}
+use Rattle.bh_cmd.proofs.Ended.{translated}
 use Rattle.bh_cmd.proofs.running.translate.Goals as goal
 
 pub returns : goal.returns
 returns g c =
     let said = c.to_http1.ensures in
     rw c.from.ensures
-    (translated c.to_http1.result said.call said.told said.complete said.log said.read_fault said.write_fault said.quiet_reads said.quiet_writes)
+    (translated c.to_http1.result said.call said.told said.complete said.log
+    (record { read_fault = said.read_fault; write_fault = said.write_fault; quiet_reads = said.quiet_reads; quiet_writes = said.quiet_writes }))
