@@ -128,11 +128,11 @@ module _ (v : View) (ready : IsReady v) (piece front : List ℕ) (cut : front �
   pub whole_on : (w : View) (k : ℕ) (event : Event) (j : JudgeView) (whole : WholeAt v.setting v.place front k event w.place j) → w.setting ≡ v.setting → w.taken ≡ v.taken + k
       → w.refused ≡ false → w.kind ≡ kind_behind (whole.0 ∷ []) v.kind → w.lines ≡ count (v.lines + length j.lines) → w.content ≡ v.content → w.head ≡ j.head → w.fields ≡ Some j.lines
       → (item : Item) × Took rest Moved v piece k (item ∷ []) w × shows w event item × (content_items (item ∷ []) ≡ 0)
-  whole_on w k event j whole setting taken refused kind lines content head fields =
+  whole_on w k event j whole setting taken refused kind lines content shown fields =
       let none = event_content j event whole.0 whole.2 in (
         whole.0,
         took_on w k (whole.0 ∷ []) whole.1 setting taken refused kind (omega (arith, lines, event_lines j event whole.0 whole.2)) (omega (arith, content, none, ready.content)),
-        event_shown j w event whole.0 head fields whole.2,
+        event_shown j w event whole.0 shown fields whole.2,
         none,
       )
 
