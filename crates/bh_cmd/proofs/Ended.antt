@@ -89,7 +89,7 @@ module _ {R : Type 0} {of : Cause → Option R} {Call Told Completes : End Summa
 binary_back : (r : Refusal) → as_binary (Binary r) ≡ Some r
 binary_back r = refl
 
-canon_again : Option (End Summary Refusal) → CanonEnd
+abbrev canon_again : Option (End Summary Refusal) → CanonEnd
 canon_again None = ends.ReadFault
 canon_again (Some (end.Done summary)) = ends.Done summary
 canon_again (Some (end.Refused refusal)) = ends.Refused refusal
@@ -111,7 +111,7 @@ into_back : (r : IntoWhy) → as_translation (cause_of r) ≡ Some r
 into_back (why.Binary refusal) = refl
 into_back (why.Form form) = refl
 
-into_again : Option (End Summary IntoWhy) → IntoEnd
+abbrev into_again : Option (End Summary IntoWhy) → IntoEnd
 into_again None = into_ends.NoMemory
 into_again (Some r) = into_end r
 
@@ -131,7 +131,7 @@ module _ {S : Type 0} {port : Meanings S} {s t : S} {Call Told Completes : End S
 http1_back : (cause : H1Why) → as_http1 (Http1 cause) ≡ Some cause
 http1_back cause = refl
 
-from_again : Option (End Summary H1Why) → FromEnd
+abbrev from_again : Option (End Summary H1Why) → FromEnd
 from_again None = from_ends.NoMemory
 from_again (Some r) = from_end r
 

@@ -77,7 +77,8 @@ WritingRun L output Shown most Call port log s exit t = PortRun as_binary Call (
 abbrev pub TranslatingRun : Bounds → Bool → {S : Type 0} → (S → Step → S → Type 0) → (S → Step → S → Type 0) → Meanings S
     → (S → Option (List Entry)) → S → Exit → S → Type 0
 TranslatingRun L to_head read write port log s exit t = PortRun as_translation (λ r. IntoCall L to_head read write s r t)
-    (λ r. IntoTold L to_head port s r t) (λ r. IntoCompletes L to_head port s r t) (IsLogged (IntoLog L to_head) (log s) (log t)) port s exit t
+    (λ r. IntoTold L to_head port s r t) (λ r. IntoCompletes L to_head port s r t)
+    (IsLogged (IntoLog L to_head) (log s) (log t)) port s exit t
 
 -- `from-http1`
 abbrev pub ReadingRun : Bounds → Scheme1 → Bool → {S : Type 0} → (S → Step → S → Type 0) → (S → Step → S → Type 0) → Meanings S

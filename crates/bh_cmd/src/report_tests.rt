@@ -238,3 +238,184 @@ fn each_translation_is_reported(rt: HostRuntime) -> Result<(), Fail> {
     }
     Ok(())
 }
+
+/// Translations from HTTP/1.1, in the same form.
+const READ: [(&str, &[u8], &str, &[u8]); 11] = [
+    (
+        "from-http1",
+        b"GET /hello.txt HTTP/1.1\r\nUser-Agent: curl/7.16.3 libcurl/7.16.3 OpenSSL/0.9.7l zlib/1.2.3\r\n\
+          Host: www.example.com\r\nAccept-Language: en, mi\r\n\r\n",
+        "done kind=request bytes=141 lines=3 content=0 padding=0 omitted=none\n",
+        HELLO,
+    ),
+    // An extension, a named line, cookies and a trailer.
+    (
+        "from-http1",
+        b"POST /a HTTP/1.1\r\nHost: h\r\nConnection: close, X-A\r\nX-A: 1\r\nCookie: a=1\r\nCookie: b=2\r\n\
+          Transfer-Encoding: chunked\r\n\r\n3;e=1\r\nabc\r\n0\r\nX-T: 9\r\n\r\n",
+        "done kind=request bytes=140 lines=3 content=3 padding=0 omitted=none\n",
+        POSTED,
+    ),
+    (
+        "from-http1",
+        b"GET HTTP://a.example?x=1 HTTP/1.1\r\nHost: h\r\n\r\n",
+        "done kind=request bytes=46 lines=0 content=0 padding=0 omitted=none\n",
+        b"\x02\x03GET\x04http\x09a.example\x05/?x=1\x00\x00\x00",
+    ),
+    (
+        "from-http1",
+        b"OPTIONS http://a.example HTTP/1.1\r\nHost: h\r\n\r\n",
+        "done kind=request bytes=46 lines=0 content=0 padding=0 omitted=none\n",
+        OPTIONS,
+    ),
+    (
+        "from-http1",
+        b"OPTIONS * HTTP/1.1\r\nHost: h\r\n\r\n",
+        "done kind=request bytes=31 lines=1 content=0 padding=0 omitted=none\n",
+        b"\x02\x07OPTIONS\x05https\x00\x01*\x04host\x01h\x00\x00\x00",
+    ),
+    (
+        "from-http1",
+        b"GET / HTTP/1.1\r\nHost: h\r\nConnection: host\r\n\r\n",
+        "done kind=request bytes=45 lines=1 content=0 padding=0 omitted=none\n",
+        b"\x02\x03GET\x05https\x00\x01/\x04host\x01h\x00\x00\x00",
+    ),
+    (
+        "from-http1",
+        b"GET / HTTP/1.1\r\nHost: h\r\nCookie:\r\nCookie:\r\n\r\n",
+        "done kind=request bytes=45 lines=2 content=0 padding=0 omitted=none\n",
+        b"\x02\x03GET\x05https\x00\x01/\x04host\x01h\x06cookie\x00\x00\x00\x00",
+    ),
+    (
+        "from-http1|--scheme=http",
+        b"GET / HTTP/1.1\r\nHost: h\r\n\r\n",
+        "done kind=request bytes=27 lines=1 content=0 padding=0 omitted=none\n",
+        b"\x02\x03GET\x04http\x00\x01/\x04host\x01h\x00\x00\x00",
+    ),
+    (
+        "from-http1",
+        b"HTTP/1.1 103 Early\r\n\r\nHTTP/1.1 200 OK\r\n\r\nhi",
+        "done kind=response bytes=43 lines=0 content=2 padding=0 omitted=none\n",
+        EARLY,
+    ),
+    (
+        "from-http1",
+        b"HTTP/1.1 304 x\r\nContent-Length: 9\r\n\r\n",
+        "done kind=response bytes=37 lines=1 content=0 padding=0 omitted=none\n",
+        b"\x03A0\x0econtent-length\x019\x00\x00\x00",
+    ),
+    (
+        "from-http1|--to-head",
+        b"HTTP/1.1 200 x\r\nContent-Length: 9\r\n\r\n",
+        "done kind=response bytes=37 lines=1 content=0 padding=0 omitted=none\n",
+        b"\x03@\xc8\x0econtent-length\x019\x00\x00\x00",
+    ),
+];
+
+/// HTTP/1.1 messages that are refused, in the same form.
+const UNREAD: [(&str, &[u8], &str, &[u8]); 15] = [
+    (
+        "from-http1",
+        b"POST /a HTTP/1.1\r\nHost: h\r\nConnection: close, X-A\r\nX-A: 1\r\nCookie: a=1\r\nCookie: b=2\r\n\
+          Transfer-Encoding: chunked\r\nContent-Length: 3\r\n\r\n3;e=1\r\nabc\r\n0\r\nX-T: 9\r\n\r\n",
+        "refused http1 coding\n",
+        b"",
+    ),
+    // CR alone behind the chunk: the input ended.
+    (
+        "from-http1",
+        b"POST /a HTTP/1.1\r\nHost: h\r\nTransfer-Encoding: chunked\r\n\r\n3\r\nabc\r",
+        "refused http1 ended\n",
+        b"\x02\x04POST\x05https\x00\x02/a\x04host\x01h\x00",
+    ),
+    (
+        "from-http1",
+        b"GET * HTTP/1.1\r\nHost: h\r\n\r\n",
+        "refused http1 target\n",
+        b"",
+    ),
+    (
+        "from-http1",
+        b"CONNECT a.example:443 HTTP/1.1\r\nHost: h\r\n\r\n",
+        "refused http1 connect\n",
+        b"",
+    ),
+    (
+        "from-http1",
+        b"GET /a#b HTTP/1.1\r\nHost: h\r\n\r\n",
+        "refused http1 target\n",
+        b"",
+    ),
+    (
+        "from-http1",
+        b"GET / HTTP/1.0\r\nHost: h\r\n\r\n",
+        "refused http1 head-form\n",
+        b"",
+    ),
+    (
+        "from-http1",
+        b"GET / HTTP/1.1\r\nHost: h\r\nHost: h\r\n\r\n",
+        "refused http1 host\n",
+        b"",
+    ),
+    (
+        "from-http1",
+        b"GET / HTTP/1.1\r\nHost: h\r\n\r\nx",
+        "refused http1 extra\n",
+        b"\x02\x03GET\x05https\x00\x01/\x04host\x01h\x00",
+    ),
+    (
+        "from-http1|--interims=0",
+        b"HTTP/1.1 103 Early\r\n\r\nHTTP/1.1 200 OK\r\n\r\nhi",
+        "refused http1 interims\n",
+        b"",
+    ),
+    (
+        "from-http1",
+        b"HTTP/1.1 101 x\r\n\r\n",
+        "refused http1 switching\n",
+        b"",
+    ),
+    (
+        "from-http1",
+        b"HTTP/1.1 200 x\r\nContent-Length: 9\r\n\r\n",
+        "refused http1 ended\n",
+        b"\x03@\xc8\x0econtent-length\x019\x00",
+    ),
+    (
+        "from-http1|--section=24",
+        b"GET / HTTP/1.1\r\nHost: h\r\n\r\n",
+        "refused http1 head-limit\n",
+        b"",
+    ),
+    (
+        "from-http1|--input=24",
+        b"GET / HTTP/1.1\r\nHost: h\r\n\r\n",
+        "refused http1 too-long\n",
+        b"",
+    ),
+    ("from-http1|--scheme|ftp", b"", USAGE, b""),
+    ("from-http1|--to-head|--to-head", b"", USAGE, b""),
+];
+
+#[test]
+fn each_http1_message_is_reported(rt: HostRuntime) -> Result<(), Fail> {
+    for (words, input, report, sent) in READ {
+        assert!(rt;
+            is_reported(rt.alloc(), words, input, report, sent)?,
+            "{words}"
+        );
+    }
+    Ok(())
+}
+
+#[test]
+fn each_refused_http1_message_is_reported(rt: HostRuntime) -> Result<(), Fail> {
+    for (words, input, report, sent) in UNREAD {
+        assert!(rt;
+            is_reported(rt.alloc(), words, input, report, sent)?,
+            "{report}"
+        );
+    }
+    Ok(())
+}
