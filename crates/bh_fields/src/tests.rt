@@ -2,6 +2,7 @@ ghost use Rattle.std.specs.Prelude.{◌≡◌, IfOk};
 ghost use Rattle.bh_spec.specs.Readings.{reading};
 
 use crate::{SectionReader, SectionStep, plain};
+use bh_base::NoMemory;
 use bh_model::{Form, Limits, Part, Place};
 use std::test::Fail;
 
@@ -17,14 +18,24 @@ fn begun(rt: &HostRuntime, form: Form, place: Place) -> Result<SectionReader, Fa
     Ok(reader)
 }
 
-/// Whether the line of this number is there and has this name and value.
-fn is_line(reader: &SectionReader, i: usize, name: &[u8], value: &[u8]) -> bool {
+/// What a section answers to its bytes, whole or not.
+fn answer(rt: &HostRuntime, form: Form, place: Place, bytes: &[u8]) -> Result<SectionStep, Fail> {
+    let mut reader = begun(rt, form, place)?;
+    Ok(reader.push(bytes))
+}
+
+/// Each line behind a bar.
+fn lines_of(rt: &HostRuntime, reader: &SectionReader) -> Result<Vec<u8>, NoMemory> {
     let fields = reader.fields();
-    if i >= fields.len() {
-        return false;
+    let mut text = Vec::new(rt.alloc());
+    for i in 0..fields.len() {
+        let (name, value) = fields.line(i);
+        text.extend_from_slice(b"|")?;
+        text.extend_from_slice(name)?;
+        text.extend_from_slice(b"=")?;
+        text.extend_from_slice(value)?;
     }
-    let line = fields.line(i);
-    line.0 == name && line.1 == value
+    Ok(text)
 }
 
 #[test]
@@ -83,8 +94,7 @@ fn sections_of_known_length_are_refused_at_their_first_dead_byte(
         ),
     ];
     for (bytes, want) in rows {
-        let mut reader = begun(&rt, Form::Known, Place::Header)?;
-        let step = reader.push(bytes);
+        let step = answer(&rt, Form::Known, Place::Header, bytes)?;
         assert_eq!(rt; step, want, "at {bytes:?}");
     }
     Ok(())
@@ -114,8 +124,7 @@ fn sections_of_indeterminate_length_end_by_a_zero_in_any_width(
         ),
     ];
     for (bytes, want) in rows {
-        let mut reader = begun(&rt, Form::Indeterminate, Place::Header)?;
-        let step = reader.push(bytes);
+        let step = answer(&rt, Form::Indeterminate, Place::Header, bytes)?;
         assert_eq!(rt; step, want, "at {bytes:?}");
     }
     Ok(())
@@ -123,8 +132,7 @@ fn sections_of_indeterminate_length_end_by_a_zero_in_any_width(
 
 #[test]
 fn a_trailer_section_has_no_pseudo_field(rt: HostRuntime) -> Result<(), Fail> {
-    let mut reader = begun(&rt, Form::Known, Place::Trailer)?;
-    let step = reader.push(b"\x04\x02:a\x00");
+    let step = answer(&rt, Form::Known, Place::Trailer, b"\x04\x02:a\x00")?;
     assert_eq!(rt;
         step,
         SectionStep::Dead {
@@ -135,18 +143,33 @@ fn a_trailer_section_has_no_pseudo_field(rt: HostRuntime) -> Result<(), Fail> {
     Ok(())
 }
 
+/// The first part of a section, and what the section answers to its bytes.
+fn read(reader: &mut SectionReader, form: Form, place: Place, bytes: &[u8]) -> (Part, SectionStep) {
+    reader.begin(form, place);
+    (reader.next_part(), reader.push(bytes))
+}
+
+/// What two sections answer that are read one after the other, and the lines of each.
+fn read_twice(rt: &HostRuntime) -> Result<([(Part, SectionStep); 2], [Vec<u8>; 2]), Fail> {
+    let mut reader = begun(rt, Form::Known, Place::Header)?;
+    let known = b"\x06\x01a\x00\x01b\x00\xff";
+    let first = read(&mut reader, Form::Known, Place::Header, known);
+    let first_lines = lines_of(rt, &reader)?;
+    let open = b"\x01A\x011\x00";
+    let second = read(&mut reader, Form::Indeterminate, Place::Trailer, open);
+    Ok(([first, second], [first_lines, lines_of(rt, &reader)?]))
+}
+
 #[test]
 fn a_whole_section_has_its_lines_and_no_earlier_ones(rt: HostRuntime) -> Result<(), Fail> {
-    let mut reader = begun(&rt, Form::Known, Place::Header)?;
-    let step = reader.push(b"\x06\x01a\x00\x01b\x00\xff");
-    assert_eq!(rt; step, SectionStep::Whole { taken: 7 });
-    assert!(rt; reader.fields().len() == 2);
-    assert!(rt; is_line(&reader, 0, b"a", b"") && is_line(&reader, 1, b"b", b""));
-    reader.begin(Form::Indeterminate, Place::Trailer);
-    assert!(rt; reader.next_part() == Part::NameLength);
-    let step = reader.push(b"\x01A\x011\x00");
-    assert_eq!(rt; step, SectionStep::Whole { taken: 5 });
-    assert!(rt; reader.fields().len() == 1 && is_line(&reader, 0, b"a", b"1"));
+    let (steps, [first, second]) = read_twice(&rt)?;
+    let known = (Part::SectionLength, SectionStep::Whole { taken: 7 });
+    let open = (Part::NameLength, SectionStep::Whole { taken: 5 });
+    assert_eq!(rt; steps, [known, open]);
+    assert_eq!(rt;
+        (first.as_slice(), second.as_slice()),
+        (b"|a=|b=".as_slice(), b"|a=1".as_slice())
+    );
     Ok(())
 }
 
@@ -164,7 +187,8 @@ fn pieces_of_one_byte_give_the_same_answer(rt: HostRuntime) -> Result<(), Fail> 
             }
         }
     }
-    assert!(rt; is_line(&reader, 0, b"a", b"") && is_line(&reader, 1, b"b", b""));
+    let lines = lines_of(&rt, &reader)?;
+    assert_eq!(rt; lines.as_slice(), b"|a=|b=".as_slice());
     Ok(())
 }
 
@@ -196,7 +220,8 @@ fn a_section_may_be_cut_anywhere(rt: HostRuntime) -> Result<(), Fail> {
     let open = b"\x02:a\x01b\x01C\xc0\x00\x00\x00\x00\x00\x00\x01d\x01e\x00\x40\x00";
     assert!(rt; is_whole_for_every_cut(&mut reader, Form::Known, known));
     assert!(rt; is_whole_for_every_cut(&mut reader, Form::Indeterminate, open));
-    assert!(rt; reader.fields().len() == 3 && is_line(&reader, 1, b"c", b"d"));
+    let lines = lines_of(&rt, &reader)?;
+    assert_eq!(rt; lines.as_slice(), b"|:a=b|c=d|e=".as_slice());
     Ok(())
 }
 
