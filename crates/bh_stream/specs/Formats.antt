@@ -28,8 +28,8 @@ ShowsContent {M} spelled items_of Shown owed = (m : M) (t : Text) → spelled m 
 -- It is enough that each front does that may have been written: of what is owed for the items of a move with which some message begins,
 -- whatever comes then; or with its ending for those of a message that may end there.
 pub record ShowsSoFar {V : Type 0} (rest : Rest V) (moves : Moving V) (v : V) (Shown : List ℕ → ℕ → Type 0) (owed : Owing) : Type 0 where
-  pub so_far : (bytes : List ℕ) (i : List Item) (w : V) → moves v bytes i w → (q : List Item) (t : Text) → rest v (i ++ q) t → (front : Output)
-      → ((q : List Item) → Begins front (owed (i ++ q))) → (n : ℕ) → Shown (written front) n → shown_in front ≤ n
+  pub so_far : (bytes : List ℕ) (i : List Item) (w : V) → moves v bytes i w → (q : List Item) (t : Text) → rest v (i ++ q) t
+      → (front : Output) → ((q : List Item) → Begins front (owed (i ++ q))) → (n : ℕ) → Shown (written front) n → shown_in front ≤ n
   pub at_end : (bytes : List ℕ) (i : List Item) (w : V) → moves v bytes i w → (omitted : Omitted) (padding : ℕ)
       → rest w (ending omitted padding ∷ []) [] → (front : Output) → Begins front (owed (i ++ ending omitted padding ∷ []))
       → (n : ℕ) → Shown (written front) n → shown_in front ≤ n

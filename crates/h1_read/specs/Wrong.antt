@@ -16,7 +16,8 @@ pub record OfHeads (S : Setting) (n : ℕ) (bytes : List ℕ) (cause : H1Why) : 
   pub many : length earlier ≡ n
   pub interims : List Interim
   pub few : IsWithin S.limits.interims (n + length interims)
-  pub text : (AreEach (IsInterimHead S.limits) interims then λ rest. OfHead S.limits S.scheme S.to_head (earlier ++ interims) rest cause) bytes
+  pub text : (AreEach (IsInterimHead S.limits) interims then λ rest. OfHead S.limits S.scheme S.to_head (earlier ++ interims) rest
+      cause) bytes
 
 -- The bytes from there complete no message, for this cause: by the first of them that decides.
 abbrev pub WrongFrom : Setting → Place → List ℕ → Causes

@@ -133,7 +133,8 @@ fn told(alloc: Global, input: &[u8], piece: usize, to_head: bool) -> Result<Vec<
 fn messages_are_read(rt: HostRuntime) -> Result<(), NoMemory> {
     let rows: [(&[u8], bool, &[u8]); 14] = [
         (
-            b"POST /a HTTP/1.1\r\nHost: h\r\nConnection: close, X-A\r\nX-A: 1\r\nCookie: a=1\r\nCookie: b=2\r\nTransfer-Encoding: chunked\r\n\r\n3;e=1\r\nabc\r\n0\r\nX-T: 9\r\nX-A: 1\r\n\r\n",
+            b"POST /a HTTP/1.1\r\nHost: h\r\nConnection: close, X-A\r\nX-A: 1\r\nCookie: a=1\r\nCookie: b=2\r\n\
+              Transfer-Encoding: chunked\r\n\r\n3;e=1\r\nabc\r\n0\r\nX-T: 9\r\nX-A: 1\r\n\r\n",
             false,
             b"h POST https  /a|host=h|cookie=a=1; b=2abct|x-t=9.33",
         ),
@@ -180,7 +181,8 @@ fn messages_are_read(rt: HostRuntime) -> Result<(), NoMemory> {
         (b"HTTP/1.1 101 x\r\n\r\n", false, b"!switching"),
         (b"GET / HTTP/1.1\r\nHost: h\r\n", false, b"!ended"),
         (
-            b"GET /aaaaaaaaaaaaaaaaaaaaaaaaaaaaaaaaaaaaaaaaaaaaaaaaaaaaaaaaaaaaaaaaaaaaaaaaaaaaaaaaaaaaaaaaaaaaaaaaaaaaaaaaaaaaaaaaaaaaaaaaaaa",
+            b"GET /aaaaaaaaaaaaaaaaaaaaaaaaaaaaaaaaaaaaaaaaaaaaaaaaaaaaa\
+              aaaaaaaaaaaaaaaaaaaaaaaaaaaaaaaaaaaaaaaaaaaaaaaaaaaaaaaaaaaaaaaaaaaaaa",
             false,
             b"!head-limit",
         ),
@@ -190,7 +192,9 @@ fn messages_are_read(rt: HostRuntime) -> Result<(), NoMemory> {
             b"h \xc8!trailer-limit",
         ),
         (
-            b"HTTP/1.1 103 \r\nA: 00000000000000\r\nB: 00000000000000\r\n\r\nHTTP/1.1 103 \r\nA: 00000000000000\r\nB: 00000000000000\r\n\r\nHTTP/1.1 200 x\r\nL: 00000000000000\r\n\r\nhello",
+            b"HTTP/1.1 103 \r\nA: 00000000000000\r\nB: 00000000000000\r\n\r\n\
+              HTTP/1.1 103 \r\nA: 00000000000000\r\nB: 00000000000000\r\n\r\n\
+              HTTP/1.1 200 x\r\nL: 00000000000000\r\n\r\nhello",
             false,
             b"i|a=00000000000000|b=00000000000000i|a=00000000000000|b=00000000000000h \xc8|l=00000000000000hel!too-long",
         ),
