@@ -10,12 +10,14 @@ use Rattle.bh_spec.specs.Canonical.{canon}
 use Rattle.bh_spec.specs.Items.{Item}
 use Rattle.bh_base.specs.Steps.{Step, Entry, ReadFacts, WriteFacts, ReadLeaves, WriteLeaves}
 use Rattle.bh_model.specs.Ranges.{AreLimits}
+use Rattle.bh_stream.specs.Jobs.{Fits}
 use Rattle.bh_stream.specs.Outputs.{written}
 use Rattle.bh_stream.specs.Logs.{HasBody}
 use Rattle.bh_stream.specs.Formats.{Knows, ShowsContent}
 use Rattle.bh_stream.specs.Messages.{Spelled, items_in}
 use Rattle.bh_stream.specs.Runs.{Streams}
 use Rattle.bh_stream.specs.declared.streaming.End.{End}
+use Rattle.bh_stream.proofs.Coming.{fits_all}
 use Rattle.bh_reading.specs.Coming.{MessageComes}
 use Rattle.bh_reading.proofs.Coming.{items_come}
 use Rattle.bh_canonical.specs.Owed.{message_owed}
@@ -24,6 +26,7 @@ use Rattle.bh_canonical.proofs.Owes.{IsLeftOut, owes_items, shows_items}
 use Rattle.h1_spec.specs.declared.Scheme1.{Scheme1}
 use Rattle.h1_spec.proofs.Valid.{read_is_valid}
 use Rattle.h1_read.specs.Readings.{View, rest, room, Moved, Refuses, misses, tells, IsAtStart}
+use Rattle.h1_read.specs.ReadingLaws.{http1_reading_laws}
 use Rattle.h1_read.specs.Laws.{IsHttp1Text}
 use Rattle.h1_read.proofs.AtStart.{left_out_is_empty, knows_http1}
 use Rattle.h1_read.proofs.Judging.{judges_as_from}
@@ -45,14 +48,17 @@ module _ (L : Bounds) (limits : AreLimits L) (scheme : Scheme1) (to_head : Bool)
     knows : Knows (IsHttp1Text L scheme to_head) items_in (λ s. canon s.message) L.input rest room v (message_owed false)
     knows = knows_http1 L scheme to_head v limits start canon (message_owed false) owes
 
-    -- what comes is what the writer takes
-    pub from_comes : (w : Writing) → w ≡ before_all → (q : List Item) (t : Text) → rest v q t → takes w q
-    from_comes w at q t h =
+    comes : (w : Writing) → w ≡ before_all → (q : List Item) (t : Text) → rest v q t → takes w q
+    comes w at q t h =
         let own = knows.alone q t h in
         let s = own.0 in
         let whole = own.2.marked.whole in
         subst (λ (x : Writing). takes x q) (sym at)
         (L, limits, subst (MessageComes L false) (sym own.1) (items_come L s.message s.omitted s.padding (read_is_valid L own.2.marked.scheme to_head s.message (bytes_of t) whole) whole.fits))
+
+    -- what is handed out is what the writer takes
+    pub from_fits : (w : Writing) → w ≡ before_all → Fits rest Moved v (takes w)
+    from_fits w at = fits_all http1_reading_laws v (takes w) (comes w at)
 
     module _ {S : Type 0} {read write : S → Step → S → Type 0} {left sent : S → Option (List ℕ)} {read_faults write_faults : S → ℕ} {ended : S → Bool} {log : S → Option (List Entry)}
         (read_law : (s t : S) (x : Step) → read s x t → ReadFacts left read_faults ended s x t)
