@@ -126,14 +126,17 @@ behind_whole section v w p q piece taken more lines e h t f = (
       subst (λ (z : At). Moves L z (take (taken + more) piece) [] w) (sym e) (subst (λ (z : At). Moves L (at_of p) (take (taken + more) piece) [] z) (sym f)
       (subst (λ (z : List ℕ). Moves L (at_of p) z [] (over lines)) (sym (take-add taken more piece)) both)),
   subst (λ (z : At). IsEnded section z piece (taken + more) (trailers_of w)) (sym e)
-  (subst (λ (z : At). IsEnded section (at_of p) piece (taken + more) (trailers_of z)) (sym f) (ended_behind section p q piece taken more lines h t.2)),
+      (subst (λ (z : At). IsEnded section (at_of p) piece (taken + more) (trailers_of z)) (sym f) (ended_behind section p q piece taken more lines h t.2)),
 )
 
 pub whole_at : (section : ℕ) (v w : At) (seen piece : List ℕ) (taken : ℕ) (lines : List Field) → v ≡ in_trailers seen → SaysTrailers section seen piece (trailer.Whole taken) lines → w ≡ over lines
     → SaysBody section v piece (steps.Whole taken) w
-whole_at section v w seen piece taken lines e t f =
-    (t.0, (lines, f), λ L l. subst (λ (z : At). Moves L z (take taken piece) [] w) (sym e) (subst (λ (z : At). Moves L (in_trailers seen) (take taken piece) [] z) (sym f) (t.1 L l)),
-    subst (λ (z : At). IsEnded section z piece taken (trailers_of w)) (sym e) (subst (λ (z : At). IsEnded section (in_trailers seen) piece taken (trailers_of z)) (sym f) t.2))
+whole_at section v w seen piece taken lines e t f = (
+  t.0,
+  (lines, f),
+  λ L l. subst (λ (z : At). Moves L z (take taken piece) [] w) (sym e) (subst (λ (z : At). Moves L (in_trailers seen) (take taken piece) [] z) (sym f) (t.1 L l)),
+  subst (λ (z : At). IsEnded section z piece taken (trailers_of w)) (sym e) (subst (λ (z : At). IsEnded section (in_trailers seen) piece taken (trailers_of z)) (sym f) t.2),
+)
 
 pub need_at : (section : ℕ) (v w : At) (seen piece : List ℕ) (lines : List Field) → v ≡ in_trailers seen → SaysTrailers section seen piece trailer.Need lines → w ≡ in_trailers (seen ++ piece)
     → SaysBody section v piece steps.Need w
