@@ -1,9 +1,9 @@
-# Builds, tests and installs `bhttp`. Beside the toolchain's `rt`, `install` needs GNU install, `corpus` Python 3, and `measure` Python 3
-# and dd on Linux.
+# Builds, tests and installs `bhttp`. Beside the toolchain's `rt`, `install` needs GNU install, `corpus` Python 3, and `measure` and
+# `load` Python 3 and dd on Linux.
 PREFIX ?= /usr/local
 PROGRAM = crates/bhttp/out/bhttp
 
-.PHONY: all check examples corpus manual measure install uninstall
+.PHONY: all check examples corpus manual measure load install uninstall
 
 # proves all, and builds the program; it runs it once, on an example
 all:
@@ -28,6 +28,10 @@ manual:
 # time and memory of the program, beside dd
 measure: all
 	scripts/measure $(PROGRAM)
+
+# 8 GiB of content through each command, in several shapes
+load: all
+	scripts/load 8 $(PROGRAM)
 
 install: all
 	install -D -m 755 $(PROGRAM) $(DESTDIR)$(PREFIX)/bin/bhttp

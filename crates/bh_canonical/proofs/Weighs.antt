@@ -18,6 +18,7 @@ use Rattle.bh_spec.proofs.Sections.{IsChunkText}
 use Rattle.bh_spec.proofs.Widths.{least_fits}
 use Rattle.bh_spec.proofs.Written.{Has, IsPiece, cut_pieces, cut_whole, has_int, has_start, has_written_section, small_framing, headers_lower, trailers_lower}
 use Rattle.bh_stream.specs.Outputs.{Output, weighed, plain, shown}
+use Rattle.bh_stream.proofs.Outputs.{weighed-append, weighed_plain, weighed_shown}
 use Rattle.bh_reading.specs.ContentLaws.{section_none, number_none, each_none, request_none, interim_none}
 use Rattle.bh_canonical.specs.Owed.{chunk_out, chunks_out}
 
@@ -25,23 +26,13 @@ use Rattle.bh_canonical.specs.Owed.{chunk_out, chunks_out}
 abbrev pub Weighs : (Text → Type 0) → Output → Type 0
 Weighs R out = (t : Text) × R t × (weighed t ≡ out)
 
-weighed-append : (x y : Text) → weighed (x ++ y) ≡ weighed x ++ weighed y
-weighed-append [] y = refl
-weighed-append (b ∷ x) y = ap (λ (l : Output). weighed (b ∷ []) ++ l) (weighed-append x y)
-
 weighs_then : (R T : Text → Type 0) (x y : Output) → Weighs R x → Weighs T y → Weighs (R then T) (x ++ y)
 weighs_then R T x y h k = (h.0 ++ k.0, (h.0, k.0, h.1, k.1, refl), weighed-append h.0 k.0 ∙ ap₂ (λ (v w : Output). v ++ w) h.2 k.2)
 
 -- ---- what has no content
 
-plain_text : (t : Text) → content_in t ≡ 0 → weighed t ≡ plain (bytes_of t)
-plain_text [] e = refl
-plain_text (x ∷ t) e =
-    let one : ◌≡◌ {A = ℕ} (if nat_eq (number_of x.0) 18 then 1 else 0) 0 = omega (arith, e) in
-    ap₂ (λ (n : ℕ) (l : Output). let b : ℕ × ℕ = (n, x.1) in b ∷ l) one (plain_text t (omega (arith, e)))
-
 of_has : (R : Text → Type 0) (bytes : List ℕ) → ((t : Text) → R t → content_in t ≡ 0) → Has R bytes → Weighs R (plain bytes)
-of_has R bytes plain_is h = (h.0, h.1, plain_text h.0 (plain_is h.0 h.1) ∙ ap plain h.2)
+of_has R bytes plain_is h = (h.0, h.1, weighed_plain h.0 (plain_is h.0 h.1) ∙ ap plain h.2)
 
 start_none : (L : Bounds) (a : Start) (t : Text) → IsStartText L Indeterminate a t → content_in t ≡ 0
 start_none L (request c) t h = request_none L c t h
@@ -61,15 +52,11 @@ weighed_length : (x : List ℕ) → weighed (mark parts.ChunkLength x) ≡ plain
 weighed_length [] = refl
 weighed_length (b ∷ x) = ap (λ (l : Output). plain (b ∷ []) ++ l) (weighed_length x)
 
-weighed_content : (x : List ℕ) → weighed (mark parts.Content x) ≡ shown x
-weighed_content [] = refl
-weighed_content (b ∷ x) = ap (λ (l : Output). shown (b ∷ []) ++ l) (weighed_content x)
-
 chunk_weighs : (c : List ℕ) → length c ≤ greatest → Weighs (IsChunkText c) (chunk_out c)
 chunk_weighs c h =
     weighs_then (IsNumber parts.ChunkLength (length c)) (IsRun parts.Content c) (plain (int (length c))) (shown c)
     (mark parts.ChunkLength (int (length c)), record { width = least_width (length c); fits = least_fits (length c) h; spelled = refl }, weighed_length (int (length c)))
-    (mark parts.Content c, refl, weighed_content c)
+    (mark parts.Content c, refl, weighed_shown c)
 
 chunks_weigh : (cs : List (List ℕ)) → All IsPiece cs → Weighs (AreEach IsChunkText cs) (flat_map chunk_out cs)
 chunks_weigh [] p = ([], refl, refl)

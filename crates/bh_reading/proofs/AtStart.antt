@@ -62,6 +62,10 @@ module _ (L : Bounds) (limits : AreLimits L) (v : Counted) (start : IsAtStart L 
     once = one_spelling L;
     limit_is = ap (λ (K : Bounds). K.input) limits.same ∙ ap Some (sym room_is);
     owes = λ s t h. owes s.message s.omitted s.padding t h;
+    nothing = λ never.
+        let some = some_message L limits in
+        let m = some.spelled in
+        absurd (never some.text (record { message = m.0; omitted = m.1; padding = m.2 }, m.3));
   }
     where
       room_is : room v ≡ limits.input

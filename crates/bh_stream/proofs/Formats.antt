@@ -59,6 +59,7 @@ module _ {M N : Type 0} {spelled : M → Text → Type 0} {output : M → List �
             subst (Begins (given front)) m.2 (h.so_far (unfinished_same (SomeOf spelled) (SomeOf texts) from some front which) long (longest_same (SomeOf texts) (SomeOf spelled) some from limit (taken front) long longest)
             m.0 (record { text = text.text; after = text.after; spelled = m.1; begins = text.begins }));
         behind = λ ended n text. let m = to n text.text text.spelled in subst (Begins (given front)) m.2 (h.behind ended m.0 (record { text = text.text; spelled = m.1; same = text.same }));
+        nothing = λ never. h.nothing (λ t s. never t (from t s));
       }
     where
       some : (t : Text) → SomeOf texts t → SomeOf spelled t
@@ -87,13 +88,14 @@ module _ {M : Type 0} {spelled : M → Text → Type 0} {items_of : M → List I
         (items_of m) (record { text = text.text; after = text.after; spelled = knows.reads m text.text text.spelled; begins = text.begins }));
     behind = λ ended m text. subst (Begins (given front)) (knows.owes m text.text text.spelled)
         (h.behind ended (items_of m) (record { text = text.text; spelled = knows.reads m text.text text.spelled; same = text.same }));
+    nothing = λ never. h.nothing (λ t s. never t (from t s));
   }
 
   module _ {A R : Type 0} {moves : Moving V} {ready : V → Type 0} {refuses : V → List ℕ → R → Type 0} {tells : V → Omitted → ℕ → A → Type 0} {misses : V → R → Type 0}
       (laws : DecoderLaws rest room moves ready) {most : ℕ} {S : Type 0} {read write : S → Step → S → Type 0} {s t : S} {r : End A R} where
     -- What was given begins the output.
     pub gives_always : {writes : Bool} (h : Streams rest room moves refuses tells misses writes most read write v owed s r t) → GivesAlways spelled output limit h.steps
-    gives_always {writes = writes} h front back e = gives front (gives_front laws writes v owed (most + one_read) once front (h.points front back e))
+    gives_always {writes = writes} h front back e = gives front (gives_front laws writes v owed (most + one_read) once (λ never. knows.nothing (λ t s. never t (to t s))) front (h.points front back e))
 
     -- The content shown keeps up with the content taken.
     pub keeps_so_far : (Shown : List ℕ → ℕ → Type 0) → ShowsSoFar rest moves v Shown owed → (h : Streams rest room moves refuses tells misses true most read write v owed s r t)

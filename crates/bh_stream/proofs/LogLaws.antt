@@ -7,7 +7,7 @@ use Rattle.bh_spec.specs.Texts.{Text, bytes_of, content_in}
 use Rattle.bh_spec.specs.Pieces.{CanBecome, IsText}
 use Rattle.bh_spec.specs.Items.{Item, ending}
 use Rattle.bh_spec.proofs.Marks.{bytes_of-append, content-append}
-use Rattle.bh_stream.specs.Outputs.{written}
+use Rattle.bh_stream.specs.Outputs.{Output, written}
 use Rattle.bh_stream.specs.Logs.{Begins, IsLongest, HasBody, IsClose, GivesFront}
 use Rattle.bh_stream.specs.Decoding.{content_items, Rest, Moving, Coming, IsSilent, Passing, DecoderLaws}
 use Rattle.bh_stream.specs.Jobs.{Owing}
@@ -20,6 +20,10 @@ use Rattle.bh_stream.proofs.Passings.{pass_moved, Stood, stood}
 pub take_front : {A : Type 0} (x r : List A) → take (length x) (x ++ r) ≡ x
 take_front [] r = refl
 take_front (a ∷ x) r = ap (λ l. a ∷ l) (take_front x r)
+
+no_front : (front more : Output) → [] ≡ front ++ more → front ≡ []
+no_front [] more e = refl
+no_front (x ∷ front) more e = absurd (cc)
 
 -- a text whose bytes are two lists in a row
 cut_text : (t : Text) (a b : List ℕ) → bytes_of t ≡ a ++ b → (x y : Text) × (t ≡ x ++ y) × (bytes_of x ≡ a) × (bytes_of y ≡ b)
@@ -102,7 +106,20 @@ module _ {V : Type 0} {rest : Rest V} {room : V → ℕ} {moves : Moving V} {rea
         let residual = (laws.leads v p.state bytes p.items (pass_moved laws p.moved)).residual in
         record { text = residual.text ++ []; spelled = residual.back (ending p.omitted p.padding ∷ []) [] p.whole; same = ap bytes_of (append-nil residual.text) ∙ residual.same }
 
-    module _ (once : (p q : List Item) (t u : Text) → rest v p t → rest v q u → bytes_of t ≡ bytes_of u → p ≡ q) where
+    -- where nothing completes a message, nothing is due
+    none_given : (bytes gone : List ℕ) → Point (Passing rest moves) writes v owed slack bytes gone → ((t : Text) → Coming rest v t → ⊥) → owed [] ≡ [] → gone ≡ []
+    none_given bytes gone p never none = by_case p.moved
+      where
+        by_case : Passing rest moves v p.done p.items p.state → gone ≡ []
+        by_case (inl a) =
+            let h = (laws.leads v a.state a.done p.items a.moved).residual in
+            absurd (never (h.text ++ a.alive.1) (p.items ++ a.alive.0, h.back a.alive.0 a.alive.1 a.alive.2))
+        by_case (inr a) =
+            let due = p.due [] in
+            let all : [] ≡ p.front ++ due.rest = sym none ∙ ap owed (sym (append-nil p.items ∙ a.none)) ∙ due.split in
+            sym p.gave ∙ ap written (no_front p.front due.rest all)
+
+    module _ (once : (p q : List Item) (t u : Text) → rest v p t → rest v q u → bytes_of t ≡ bytes_of u → p ≡ q) (none : ((t : Text) → Coming rest v t → ⊥) → owed [] ≡ []) where
       given_last : (bytes gone : List ℕ) → LastPoint rest (Passing rest moves) writes v owed slack bytes gone → (q : List Item) → IsText (rest v q) bytes → Begins gone (written (owed q))
       given_last bytes gone p q text =
           let mine = whole_text bytes gone p in
@@ -114,10 +131,12 @@ module _ {V : Type 0} {rest : Rest V} {room : V → ℕ} {moves : Moving V} {rea
       gives_front front (inl p) = record {
         so_far = λ which long h q text. given_so_far (taken front) (given front) p long h q text;
         behind = λ ended q text. given_whole (taken front) (given front) p q text;
+        nothing = λ never. none_given (taken front) (given front) p never (none never);
       }
       gives_front front (inr (ended, p)) = record {
         so_far = λ which long h q text. absurd (never which);
         behind = λ e q text. given_last (taken front) (given front) p q text;
+        nothing = λ never. let mine = whole_text (taken front) (given front) p in absurd (never mine.text (p.items ++ ending p.omitted p.padding ∷ [], mine.spelled));
       }
         where
           never : (met front ≡ false) ⊎ (IsText (Coming rest v) (taken front) → ⊥) → ⊥

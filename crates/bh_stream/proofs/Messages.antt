@@ -20,7 +20,7 @@ use Rattle.bh_stream.specs.Messages.{Spelled, IsSpelled, items_in, IsTextOf, Sho
 use Rattle.bh_stream.proofs.Outputs.{weighed_bytes, weighed_content, weighed_front}
 use Rattle.bh_stream.proofs.Moving.{bytes-length}
 use Rattle.bh_stream.proofs.LogLaws.{take_front}
-use Rattle.bh_stream.proofs.SameMarks.{same_content}
+use Rattle.bh_stream.proofs.SameMarks.{same_marks, shows_text}
 use Rattle.bh_stream.proofs.Formats.{gives_for, keeps_same}
 
 -- texts of the same bytes are of one message
@@ -43,23 +43,7 @@ gives_messages L output steps gives = gives_for (IsTextOf L) output (λ m t h. (
 pub keeps_messages : (L : Bounds) (Shown : List ℕ → ℕ → Type 0) (most before : ℕ) (steps : List Step) → KeepsUp (SomeOf (IsSpelled L)) Shown most before steps → KeepsUp (IsMessageText L) Shown most before steps
 keeps_messages L Shown most before steps h = keeps_same (IsMessageText L) (SomeOf (IsSpelled L)) (some_spelled L) (some_message L) Shown most before steps h
 
--- the content of what was written
-written_content : (L : Bounds) (front more : Text) → IsMessageText L (front ++ more) → (n : ℕ) → HasBody (IsMessageText L) (bytes_of front) n → n ≡ content_in front
-written_content L front more spelled n body =
-    let gone = bytes_of front in
-    let begins : bytes_of (front ++ more) ≡ gone ++ bytes_of more = bytes_of-append front more in
-    let all : take (length gone) gone ≡ gone = take_all (length gone) gone (omega arith) in
-    let whole : CanBecome (IsMessageText L) (take (length gone) gone) = record { text = front ++ more; after = bytes_of more; spelled = spelled; begins = begins ∙ ap (λ (l : List ℕ). l ++ bytes_of more) (sym all) } in
-    let long : body.long ≡ length gone = omega (arith, body.longest.most (length gone) (omega arith) tt whole, body.longest.inside) in
-    let text : bytes_of body.text ≡ gone ++ body.begins.rest = body.begins.split ∙ ap (λ (l : List ℕ). l ++ body.begins.rest) (ap (λ (k : ℕ). take k gone) long ∙ all) in
-    let same = same_content (IsMessageText L) (λ bytes p q a b. one_next L L bytes p q a b) body.text (front ++ more) gone body.begins.rest (bytes_of more) body.spelled spelled text begins in
-    sym body.counts ∙ ap (λ (k : ℕ). content_in (take k body.text)) long ∙ same ∙ ap (λ (k : ℕ). content_in (take k (front ++ more))) (bytes-length front) ∙ ap content_in (take_front front more)
-
 -- Each front of an output that is a text of a message shows the content that it has.
 pub shows_front : (L : Bounds) (out : Output) (x : Text) → out ≡ weighed x → IsMessageText L x → (front more : Output) → out ≡ front ++ more → (n : ℕ) → HasBody (IsMessageText L) (written front) n
     → shown_in front ≤ n
-shows_front L out x weighs spelled front more split n body =
-    let f = weighed_front x front more (sym weighs ∙ split) in
-    let bytes : written front ≡ bytes_of f.0 = sym (ap written f.3) ∙ weighed_bytes f.0 in
-    let count = written_content L f.0 f.1 (subst (IsMessageText L) f.2 spelled) n (subst (λ (l : List ℕ). HasBody (IsMessageText L) l n) bytes body) in
-    omega (arith, count, ap shown_in f.3, weighed_content f.0)
+shows_front L = shows_text (IsMessageText L) (same_marks (IsMessageText L) (one_next L L))

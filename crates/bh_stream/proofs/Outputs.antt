@@ -1,9 +1,10 @@
 -- Outputs, their bytes and their content.
-use Rattle.std.proofs.Common.{◌≡◌, ◌+◌, ℕ, if◌then◌else◌, nat_eq, List, [], ◌∷◌, ◌++◌, length, refl, ◌∙◌, ap, arith, append_assoc}
+use Rattle.std.proofs.Common.{◌≡◌, ◌+◌, ℕ, if◌then◌else◌, nat_eq, List, [], ◌∷◌, ◌++◌, length, refl, ◌∙◌, ap, ap₂, arith, append_assoc}
 use Rattle.std.proofs.lemmas.List.{map-append}
 use Rattle.bh_spec.specs.declared.Part.{Part}
+use Rattle.bh_spec.specs.declared.Part.TheVariants as parts
 use Rattle.bh_spec.specs.Parts.{number_of}
-use Rattle.bh_spec.specs.Texts.{Text, bytes_of, content_in}
+use Rattle.bh_spec.specs.Texts.{Text, mark, bytes_of, content_in}
 use Rattle.bh_stream.specs.Outputs.{Output, written, shown_in, weighed, plain, shown}
 use Rattle.bh_stream.specs.Logs.{Begins}
 
@@ -40,6 +41,21 @@ weighed_bytes (x ∷ t) = ap (λ (l : List ℕ). x.1 ∷ l) (weighed_bytes t)
 pub weighed_content : (t : Text) → shown_in (weighed t) ≡ content_in t
 weighed_content [] = refl
 weighed_content (x ∷ t) = omega (arith, weighed_content t)
+
+pub weighed-append : (x y : Text) → weighed (x ++ y) ≡ weighed x ++ weighed y
+weighed-append [] y = refl
+weighed-append (b ∷ x) y = ap (λ (l : Output). weighed (b ∷ []) ++ l) (weighed-append x y)
+
+-- without content, and all of it content
+pub weighed_plain : (t : Text) → content_in t ≡ 0 → weighed t ≡ plain (bytes_of t)
+weighed_plain [] e = refl
+weighed_plain (x ∷ t) e =
+    let one : ◌≡◌ {A = ℕ} (if nat_eq (number_of x.0) 18 then 1 else 0) 0 = omega (arith, e) in
+    ap₂ (λ (n : ℕ) (l : Output). let b : ℕ × ℕ = (n, x.1) in b ∷ l) one (weighed_plain t (omega (arith, e)))
+
+pub weighed_shown : (x : List ℕ) → weighed (mark parts.Content x) ≡ shown x
+weighed_shown [] = refl
+weighed_shown (b ∷ x) = ap (λ (l : Output). shown (b ∷ []) ++ l) (weighed_shown x)
 
 -- a front of a weighed text is a weighed front
 pub weighed_front : (t : Text) (front more : Output) → weighed t ≡ front ++ more → (x y : Text) × (t ≡ x ++ y) × (weighed x ≡ front) × (weighed y ≡ more)

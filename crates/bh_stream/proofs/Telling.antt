@@ -135,6 +135,7 @@ pub front_alike : {M : Type 0} {spelled : M → Text → Type 0} {output : M →
 front_alike xs ys a h = record {
   so_far = rw (a.takes, a.gives, a.meets) at h.so_far;
   behind = rw (a.takes, a.gives, a.meets) at h.behind;
+  nothing = λ never. sym a.gives ∙ h.nothing never;
 }
 
 pub close_alike : (R : Text → Type 0) (Shown : List ℕ → ℕ → Type 0) (most : ℕ) (xs ys : List Step) → AreAlike xs ys → IsClose R Shown most xs → IsClose R Shown most ys

@@ -3,6 +3,7 @@
 use Rattle.std.specs.Prelude.{◌≡◌, ◌≤◌, ℕ, List, [], ◌∷◌, ◌++◌, Option, Some}
 use Rattle.bh_spec.specs.declared.Omitted.{Omitted}
 use Rattle.bh_spec.specs.Texts.{Text, bytes_of}
+use Rattle.bh_spec.specs.Pieces.{SomeOf}
 use Rattle.bh_spec.specs.Items.{Item, ending}
 use Rattle.bh_base.specs.Steps.{Step}
 use Rattle.bh_stream.specs.Outputs.{Output, written, shown_in}
@@ -11,7 +12,8 @@ use Rattle.bh_stream.specs.Decoding.{Rest, Moving}
 use Rattle.bh_stream.specs.Jobs.{Owing}
 
 -- A decoder at the start knows the format: the items of each thing, with its texts, and nothing else. Texts of the same bytes have the
--- same items. It takes as many bytes as the limit of the input allows. A job owes the output of a thing for its items.
+-- same items. It takes as many bytes as the limit of the input allows. A job owes the output of a thing for its items, and nothing for none
+-- where there is no thing.
 pub record Knows {M : Type 0} (spelled : M → Text → Type 0) (items_of : M → List Item) (output : M → List ℕ) (limit : Option ℕ) {V : Type 0}
     (rest : Rest V) (room : V → ℕ) (v : V) (owed : Owing) : Type 0 where
   pub reads : (m : M) (t : Text) → spelled m t → rest v (items_of m) t
@@ -19,6 +21,7 @@ pub record Knows {M : Type 0} (spelled : M → Text → Type 0) (items_of : M �
   pub once : (m n : M) (t u : Text) → spelled m t → spelled n u → bytes_of t ≡ bytes_of u → items_of m ≡ items_of n
   pub limit_is : limit ≡ Some (room v)
   pub owes : (m : M) (t : Text) → spelled m t → written (owed (items_of m)) ≡ output m
+  pub nothing : ((t : Text) → SomeOf spelled t → ⊥) → owed [] ≡ []
 
 -- Of what is owed for a thing, each front shows as much content as it has.
 abbrev pub ShowsContent : {M : Type 0} → (M → Text → Type 0) → (M → List Item) → (List ℕ → ℕ → Type 0) → Owing → Type 0

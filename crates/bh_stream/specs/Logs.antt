@@ -45,12 +45,13 @@ pub record KeepsUp (R : Text → Type 0) (Shown : List ℕ → ℕ → Type 0) (
   pub at_reads : BeforeReads (IsClose R Shown before) steps
 
 -- What was given begins the output of every message that continues the longest viable front of what was taken. Where the end was
--- met and what was taken is a message, it begins the output of that one.
+-- met and what was taken is a message, it begins the output of that one. Where there is no message at all, nothing was given.
 pub record GivesFront {M : Type 0} (spelled : M → Text → Type 0) (output : M → List ℕ) (limit : Option ℕ) (steps : List Step) : Type 0 where
   pub so_far : (met steps ≡ false) ⊎ (IsText (SomeOf spelled) (taken steps) → ⊥) → (long : ℕ)
       → IsLongest (SomeOf spelled) limit (taken steps) long
       → (m : M) → CanBecome (spelled m) (take long (taken steps)) → Begins (given steps) (output m)
   pub behind : met steps ≡ true → (m : M) → IsText (spelled m) (taken steps) → Begins (given steps) (output m)
+  pub nothing : ((t : Text) → SomeOf spelled t → ⊥) → given steps ≡ []
 
 -- At most so many bytes had been taken before the last read.
 pub record ReadsTo (most : ℕ) (steps : List Step) : Type 0 where

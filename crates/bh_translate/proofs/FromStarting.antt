@@ -46,7 +46,7 @@ module _ (L : Bounds) (limits : AreLimits L) (scheme : Scheme1) (to_head : Bool)
 
   module _ (v : View) (start : IsAtStart L scheme to_head v) where
     knows : Knows (IsHttp1Text L scheme to_head) items_in (λ s. canon s.message) L.input rest room v (message_owed false)
-    knows = knows_http1 L scheme to_head v limits start canon (message_owed false) owes
+    knows = knows_http1 L scheme to_head v limits start canon (message_owed false) owes refl
 
     comes : (w : Writing) → w ≡ before_all → (q : List Item) (t : Text) → rest v q t → takes w q
     comes w at q t h =

@@ -54,7 +54,7 @@ use Rattle.h1_judge.specs.Views.{JudgedView, Moved, rest, IsAtStart, IsJudged, A
 use Rattle.h1_judge.specs.JudgedLaws.{cleaned-append, behind-append, free-append, judged_laws}
 use Rattle.h1_text.specs.Owed.{at_start, owed}
 use Rattle.h1_text.proofs.Comings.{one_ending}
-use Rattle.h1_text.proofs.Owes.{owes_the_text}
+use Rattle.h1_text.proofs.Owes.{owes_bytes}
 use Rattle.bh_translate.specs.Into.{IsTranslated, IsRefusedBinary, IsFormless, IntoEnds}
 use Rattle.bh_translate.proofs.Left.{some_left}
 use Rattle.bh_translate.proofs.Starting.{items_cleaned, leaves_clean}
@@ -306,7 +306,7 @@ module _ (L : Bounds) (limits : AreLimits L) (to_head : Bool) (v : JudgedView) (
           answer = found.2;
           summary_is = told.3 ∙ ap (λ (n : Message). summary n h.omitted h.padding (length (taken steps))) same.0;
           gave = h.gave ∙ ap (λ (q : List Item). written (owed to_head at_start q)) (items_there h found.0 found.1)
-              ∙ owes_the_text to_head (clean_message found.0) h.omitted h.padding
+              ∙ owes_bytes to_head (clean_message found.0) h.omitted h.padding
               (leaves_clean found.0 h.omitted (spelled_leaves L found.0 h.omitted h.padding found.2.0.message.1.text found.2.0.message.1.spelled));
         },
       )

@@ -3,20 +3,21 @@ use Rattle.std.proofs.Common.{◌≡◌, ◌⊎◌, ℕ, Bool, true, List, [], �
 use Rattle.std.specs.Io.KnownBytes.{IsAtEnd}
 use Rattle.bh_spec.specs.declared.Refusal.TheVariants.{Dead, Limit, Ended, TooLong}
 use Rattle.bh_spec.specs.declared.Summary.{Summary}
-use Rattle.bh_spec.specs.Bounds.{Bounds}
+use Rattle.bh_spec.specs.Bounds.{Bounds, no_bounds}
 use Rattle.bh_spec.specs.Reports.{summary}
+use Rattle.bh_spec.specs.Viable.{IsMessageText}
 use Rattle.bh_base.specs.Steps.{Step, Entry, Meanings, taken, given, met, ReadFacts, WriteFacts, ReadLeaves, WriteLeaves}
 use Rattle.bh_model.specs.Ranges.{AreLimits}
-use Rattle.bh_stream.specs.Logs.{GivesFront}
+use Rattle.bh_stream.specs.Logs.{HasBody, GivesFront}
 use Rattle.bh_stream.specs.Messages.{IsTextOf}
 use Rattle.bh_stream.specs.Runs.{Streams}
 use Rattle.bh_stream.specs.Telling.{EndStops}
 use Rattle.bh_stream.specs.declared.streaming.End.{End}
 use Rattle.bh_stream.specs.declared.streaming.End.TheVariants as end
 use Rattle.bh_stream.proofs.Calls.{port_call}
-use Rattle.bh_stream.proofs.Formats.{gives_always}
-use Rattle.bh_stream.proofs.Messages.{gives_messages}
-use Rattle.bh_stream.proofs.Telling.{front_alike, port_tells}
+use Rattle.bh_stream.proofs.Formats.{gives_always, keeps_so_far}
+use Rattle.bh_stream.proofs.Messages.{gives_messages, keeps_messages}
+use Rattle.bh_stream.proofs.Telling.{AreAlike, front_alike, close_alike, port_tells}
 use Rattle.h1_spec.specs.Translation.{IntoAnswer, formed, dead, formless, IsIntoAnswer}
 use Rattle.h1_spec.proofs.Answering.{one_into}
 use Rattle.h1_judge.specs.declared.judged.IntoWhy.{IntoWhy}
@@ -27,8 +28,10 @@ use Rattle.h1_text.specs.Owed.{at_start, owed}
 use Rattle.h1_text.specs.Writers as writing
 use Rattle.h1_text.specs.Writers.{Writing, owes}
 use Rattle.h1_spec.specs.Http1Text.{http1}
-use Rattle.bh_translate.specs.Into.{IsFormless, IntoEnds, IsRightInto, into_end_of, IntoFacts, into_called, into_end}
+use Rattle.h1_spec.specs.Marks.{IsSomeMarked}
+use Rattle.bh_translate.specs.Into.{IsFormless, IntoEnds, IsRightInto, IntoPoint, into_end_of, IntoFacts, into_called, into_end}
 use Rattle.bh_translate.proofs.Starting.{knows_clean}
+use Rattle.bh_translate.proofs.Showing.{shows_so_far}
 use Rattle.bh_translate.proofs.IntoEnding.{ended_in}
 
 stops : (L : Bounds) (to_head : Bool) (r : End Summary IntoWhy) (steps : List Step) → IntoEnds L to_head r steps → EndStops r steps
@@ -77,6 +80,13 @@ one L to_head (end.Refused (Form form)) answer input out is h no_read no_write =
 one L to_head end.ReadFault answer input out is h no_read no_write = absurd (no_read refl)
 one L to_head end.WriteFault answer input out is h no_read no_write = absurd (no_write refl)
 
+-- what holds at every point holds of calls that are alike
+point_alike : (L : Bounds) (to_head : Bool) (xs ys : List Step) → AreAlike xs ys → IntoPoint L to_head xs → IntoPoint L to_head ys
+point_alike L to_head xs ys a h = record {
+  gives = front_alike xs ys a h.gives;
+  keeps_up = close_alike (IsMessageText L) (HasBody (IsSomeMarked no_bounds to_head)) 16383 xs ys a h.keeps_up;
+}
+
 module _ (L : Bounds) (limits : AreLimits L) (to_head : Bool) (v : JudgedView) (start : IsAtStart L to_head v)
     {S : Type 0} {read write : S → Step → S → Type 0} {left sent : S → Option (List ℕ)} {read_faults write_faults : S → ℕ} {ended : S → Bool} {log : S → Option (List Entry)}
     (read_law : (s t : S) (x : Step) → read s x t → ReadFacts left read_faults ended s x t)
@@ -88,12 +98,14 @@ module _ (L : Bounds) (limits : AreLimits L) (to_head : Bool) (v : JudgedView) (
       → IntoFacts L to_head read write (record { left = left; sent = sent; read_faults = read_faults; write_faults = write_faults }) log s r t
   into_facts s t r h =
       let knows = knows_clean L limits to_head v start in
+      let shown : List ℕ → ℕ → Type 0 = HasBody (IsSomeMarked no_bounds to_head) in
+      let keeps = keeps_messages L shown 16383 8191 h.steps (keeps_so_far knows judged_laws shown (shows_so_far L limits to_head v start) h) in
       let call = port_call (IntoEnds L to_head) knows.limit_is h (gives_messages L (http1 to_head) h.steps (gives_always knows judged_laws h))
       (ended_in L limits to_head v start r h.steps h.outcome) in
       record {
-        call = record { steps = h.steps; call = call };
+        call = record { steps = h.steps; call = call; keeps_up = keeps };
         tells = port_tells (IsTextOf L) (http1 to_head) L.input (IsRightInto L to_head) (stops L to_head) (right L to_head) (done L to_head) read_law ended_law write_law read_leaves write_leaves s t r h.steps call
-            (GivesFront (IsTextOf L) (http1 to_head) L.input) front_alike call.gives (IsIntoAnswer L to_head) into_end_of (one L to_head r);
+            (IntoPoint L to_head) (point_alike L to_head) (λ front back e. record { gives = call.gives front back e; keeps_up = keeps.always front back e }) (IsIntoAnswer L to_head) into_end_of (one L to_head r);
       }
 
   -- the writer at the start owes the text

@@ -1,8 +1,11 @@
 pub mod Left
 pub mod Joining
 pub mod Starting
+pub mod Filling
+pub mod Showing
 pub mod IntoEnding
 pub mod IntoFacts
 pub mod Schemes
 pub mod FromFacts
 pub mod FromStarting
+pub mod There

@@ -22,7 +22,7 @@ use Rattle.h1_spec.specs.Laws.{LeavesOut}
 use Rattle.h1_judge.specs.Courses.{named_behind, cleaned_items, Course}
 use Rattle.h1_judge.specs.Views.{JudgedView, rest, room, IsAtStart}
 use Rattle.h1_text.specs.Owed.{at_start, owed}
-use Rattle.h1_text.proofs.Owes.{owes_the_text}
+use Rattle.h1_text.proofs.Owes.{owes_bytes}
 
 -- ---- the items of the cleaned message
 
@@ -64,12 +64,12 @@ clean_of s = items (clean_message s.message) s.omitted s.padding
 
 module _ (L : Bounds) (limits : AreLimits L) (to_head : Bool) (v : JudgedView) (start : IsAtStart L to_head v) where
   -- the decoder of binary messages knows them
-  raw : (q : List Item) (t : Text) → binary.rest v.reading q t → (m : Message) × (o : Omitted) × (z : ℕ) × (q ≡ items m o z) × Spells L m o z t
+  pub raw : (q : List Item) (t : Text) → binary.rest v.reading q t → (m : Message) × (o : Omitted) × (z : ℕ) × (q ≡ items m o z) × Spells L m o z t
   raw q t h = from_start L limits v.reading start.reading q t h
 
   binary_knows : KnowsMessages L (text_of to_head) binary.rest binary.room v.reading (owed to_head at_start)
   binary_knows = knows_at_start L limits v.reading start.reading (text_of to_head) (owed to_head at_start)
-      (λ m o z t h. owes_the_text to_head m o z (spelled_leaves L m o z t h))
+      (λ m o z t h. owes_bytes to_head m o z (spelled_leaves L m o z t h))
 
   pub knows_clean : Knows (IsSpelled L) clean_of (λ s. http1 to_head s.message) L.input rest room v (owed to_head at_start)
   knows_clean = record {
@@ -85,5 +85,6 @@ module _ (L : Bounds) (limits : AreLimits L) (to_head : Bool) (v : JudgedView) (
         let same = one_reading L L m.message n.message m.omitted n.omitted m.padding n.padding (bytes_of u) (record { text = t; spelled = a; same = e }) (record { text = u; spelled = b; same = refl }) in
         λ i. items (clean_message (same.0 i)) (same.1 i) (same.2 i);
     limit_is = binary_knows.limit_is;
-    owes = λ s t h. owes_the_text to_head (clean_message s.message) s.omitted s.padding (leaves_clean s.message s.omitted (spelled_leaves L s.message s.omitted s.padding t h));
+    nothing = λ never. refl;
+    owes = λ s t h. owes_bytes to_head (clean_message s.message) s.omitted s.padding (leaves_clean s.message s.omitted (spelled_leaves L s.message s.omitted s.padding t h));
   }

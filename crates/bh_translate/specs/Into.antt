@@ -5,11 +5,12 @@ use Rattle.bh_spec.specs.declared.Omitted.{Omitted}
 use Rattle.bh_spec.specs.declared.Refusal.{Refusal}
 use Rattle.bh_spec.specs.declared.Refusal.TheVariants.{Dead, Limit, Ended, TooLong}
 use Rattle.bh_spec.specs.declared.Summary.{Summary}
-use Rattle.bh_spec.specs.Bounds.{Bounds}
+use Rattle.bh_spec.specs.Bounds.{Bounds, no_bounds}
 use Rattle.bh_spec.specs.Messages.{Message}
 use Rattle.bh_spec.specs.Reports.{summary}
+use Rattle.bh_spec.specs.Viable.{IsMessageText}
 use Rattle.bh_base.specs.Steps.{Step, Entry, Meanings, taken, given, met, IsQuiet, StopsAt, is_bad_read, is_bad_write}
-use Rattle.bh_stream.specs.Logs.{ReadsTo, GivesFront}
+use Rattle.bh_stream.specs.Logs.{HasBody, IsClose, KeepsUp, GivesFront, ReadsTo}
 use Rattle.bh_stream.specs.Messages.{IsTextOf, GivesFronts}
 use Rattle.bh_stream.specs.Telling.{TellsOf, CompletesAs, AtEveryEntry, PortTells, CalledSo}
 use Rattle.bh_stream.specs.Calls.{PortCall}
@@ -17,6 +18,7 @@ use Rattle.bh_stream.specs.declared.streaming.End.{End}
 use Rattle.bh_stream.specs.declared.streaming.End.TheVariants as end
 use Rattle.h1_spec.specs.Http1Text.{http1}
 use Rattle.h1_spec.specs.Judging.{IsJudgedAt}
+use Rattle.h1_spec.specs.Marks.{IsSomeMarked}
 use Rattle.h1_spec.specs.Translation.{IntoAnswer, formed, dead, formless, IsIntoAnswer}
 use Rattle.h1_judge.specs.declared.judged.IntoWhy.{IntoWhy}
 use Rattle.h1_judge.specs.declared.judged.IntoWhy.TheVariants.{Binary, Form}
@@ -59,11 +61,14 @@ IntoEnds L to_head end.ReadFault steps = StopsAt is_bad_read steps
 IntoEnds L to_head end.WriteFault steps = StopsAt is_bad_write steps
 
 -- A call that translates a message: at every point of its calls what was given begins the text of every message that continues what was
--- taken, also of one without a form.
+-- taken, also of one without a form. The content taken is at most 16,383 bytes more than the content given: an open chunk, and one read;
+-- and before each read at most 8,191 more. Content is counted in the longest front of the bytes that begins a text of a message, of
+-- Binary HTTP within the limits in what was taken, and of HTTP/1.1 in what was given.
 pub record IntoCall (L : Bounds) (to_head : Bool) {S : Type 0} (read write : S → Step → S → Type 0) (s : S) (r : End Summary IntoWhy)
     (t : S) : Type 0 where
   pub steps : List Step
   pub call : PortCall L.input (GivesFronts L (http1 to_head)) (IntoEnds L to_head) read write steps s r t
+  pub keeps_up : KeepsUp (IsMessageText L) (HasBody (IsSomeMarked no_bounds to_head)) 16383 8191 steps
 
 -- The end that is right for an input, and what was sent with it.
 abbrev pub IsRightInto : Bounds → Bool → End Summary IntoWhy → List ℕ → List ℕ → Type 0
@@ -89,15 +94,19 @@ IntoTold L to_head port s r t = TellsOf (IsTextOf L) (http1 to_head) L.input (Is
 abbrev pub IntoCompletes : Bounds → Bool → {S : Type 0} → Meanings S → S → End Summary IntoWhy → S → Type 0
 IntoCompletes L to_head port s r t = CompletesAs (IsIntoAnswer L to_head) into_end_of port s r t
 
--- At every point of the log what was given begins the text of every message that continues what was taken.
+-- What holds at every point of the calls, by their bytes, and so at every point of the log.
+pub record IntoPoint (L : Bounds) (to_head : Bool) (steps : List Step) : Type 0 where
+  pub gives : GivesFront (IsTextOf L) (http1 to_head) L.input steps
+  pub keeps_up : IsClose (IsMessageText L) (HasBody (IsSomeMarked no_bounds to_head)) 16383 steps
+
 abbrev pub IntoLog : Bounds → Bool → List Entry → Type 0
-IntoLog L to_head log = AtEveryEntry (GivesFront (IsTextOf L) (http1 to_head) L.input) log
+IntoLog L to_head log = AtEveryEntry (IntoPoint L to_head) log
 
 -- all that is said of a call over a port
 pub record IntoFacts (L : Bounds) (to_head : Bool) {S : Type 0} (read write : S → Step → S → Type 0) (port : Meanings S)
     (log : S → Option (List Entry)) (s : S) (r : End Summary IntoWhy) (t : S) : Type 0 where
   pub call : IntoCall L to_head read write s r t
-  pub tells : PortTells (IsTextOf L) (http1 to_head) L.input (GivesFront (IsTextOf L) (http1 to_head) L.input)
+  pub tells : PortTells (IsTextOf L) (http1 to_head) L.input (IntoPoint L to_head)
       (IsRightInto L to_head) (IsIntoAnswer L to_head) into_end_of port log s r t
 
 -- the end over the port, if memory didn't run out before

@@ -1,2 +1,3 @@
 pub mod Into
 pub mod From
+pub mod Laws

@@ -74,10 +74,10 @@ fn translate<P: Port>(
     stream(port, judged, writer, buffer)
 }
 
-/// Reads one binary message from the port and writes its HTTP/1.1 text to it: the head as soon as the kind of body is known, and
-/// chunks of 8,192 bytes as soon as they are whole (RFC 9112). `to_head`: a response answers a HEAD request, and has no body. The fields
-/// of a connection are dropped (RFC 9110, section 7.6.1), and cookies are joined (RFC 9113, section 8.2.3). All memory is taken before the
-/// first read.
+/// Reads one binary message from the port and writes its HTTP/1.1 text to it: the head as soon as the kind of body is known, or at the
+/// end of the message where there is none, and chunks of 8,192 bytes as soon as they are whole (RFC 9112). `to_head`: a response answers
+/// a HEAD request, and has no body. The fields of a connection are dropped (RFC 9110, section 7.6.1), and cookies are joined (RFC 9113,
+/// section 8.2.3). All memory is taken before the first read.
 pub fn to_http1<P: Port>(alloc: Global, port: &mut P, to_head: bool, limits: &Limits) -> IntoEnd
     // What the port gave and got, by the bytes of its calls, by what it tells of them, and by its log.
     ensures call { IntoSo result (port.new ≡ port.old)

@@ -248,10 +248,11 @@ pub ready_at_start : ReadyAtStart
 ready_at_start L scheme to_head v limits start = is_ready_there L scheme to_head v limits start
 
 pub knows_http1 : KnowsHttp1
-knows_http1 L scheme to_head v limits start output owed owes = record {
+knows_http1 L scheme to_head v limits start output owed owes none = record {
   reads = λ s t h. to_start L scheme to_head v limits start (items_in s) t (rest_of_text (S L scheme to_head v limits start) s t h);
   alone = λ q t h. text_of_rest (S L scheme to_head v limits start) q t (from_start L scheme to_head v limits start q t h);
   once = text_once L scheme to_head;
   limit_is = limit_there L scheme to_head v limits start;
   owes = owes;
+  nothing = λ never. none;
 }

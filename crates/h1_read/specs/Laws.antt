@@ -33,11 +33,11 @@ pub record IsHttp1Text (L : Bounds) (scheme : Scheme1) (to_head : Bool) (s : Spe
   pub omitted : s.omitted ≡ left_out (body_start (framing to_head marked.whole.head))
   pub padding : s.padding ≡ 0
 
--- At the start the reader knows HTTP/1.1 texts, with a job that owes the output of a message for its items.
+-- At the start the reader knows HTTP/1.1 texts, with a job that owes the output of a message for its items, and nothing for none.
 abbrev pub KnowsHttp1 : Type 0
 KnowsHttp1 = (L : Bounds) (scheme : Scheme1) (to_head : Bool) (v : View) → AreLimits L → IsAtStart L scheme to_head v
     → (output : Message → List ℕ) (owed : Owing)
-    → ((s : Spelled) (t : Text) → IsHttp1Text L scheme to_head s t → written (owed (items_in s)) ≡ output s.message)
+    → ((s : Spelled) (t : Text) → IsHttp1Text L scheme to_head s t → written (owed (items_in s)) ≡ output s.message) → owed [] ≡ []
     → Knows (IsHttp1Text L scheme to_head) items_in (λ s. output s.message) L.input rest room v owed
 
 -- ---- answers

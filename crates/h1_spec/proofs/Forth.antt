@@ -1,5 +1,5 @@
 -- There: what is written for a message is the cleaned message.
-use Rattle.std.proofs.Common.{◌≡◌, ◌⊎◌, ◌<◌, ◌≤◌, ◌-◌, Bool, true, false, cond, not, ◌||◌, ◌&&◌, nat_eq, nat_lt, nat_le, leb, arith, ℕ, List, [], ◌∷◌, ◌++◌, length, map, filter, flat_map, All, IsTrue, IsFalse, codes, bytes_eq, slice_index, refl, sym, ap, ap₂, subst, subst₂, ◌∙◌, append-nil, inl, inr}
+use Rattle.std.proofs.Common.{◌≡◌, ◌⊎◌, ◌<◌, ◌≤◌, ◌-◌, Bool, true, false, cond, not, ◌||◌, ◌&&◌, nat_eq, nat_lt, nat_le, leb, None, arith, ℕ, List, [], ◌∷◌, ◌++◌, length, map, filter, flat_map, All, IsTrue, IsFalse, codes, bytes_eq, slice_index, refl, sym, ap, ap₂, subst, subst₂, ◌∙◌, append-nil, inl, inr}
 use Rattle.std.specs.List.{list_any, list_all}
 use Rattle.std.proofs.lemmas.Bool.{false≢true, both_ways, or_parts, or_cases, and_parts, not-false, not-true, cond-false, eqb-true, eqb-false, leb-true, ltb-true, ltb-false, agree_below, agree_below_at}
 use Rattle.std.proofs.lemmas.List.{length-append, map-append}
@@ -13,15 +13,15 @@ use Rattle.h1_spec.specs.declared.Scheme1.{Scheme1}
 use Rattle.h1_spec.specs.declared.Framing1.{Framing1}
 use Rattle.h1_spec.specs.declared.Framing1.TheVariants.{Empty, Counted, Chunked, ToEnd}
 use Rattle.bh_spec.specs.declared.NoForm.TheVariants as no
-use Rattle.bh_spec.specs.Texts.{AreEach}
+use Rattle.bh_spec.specs.Texts.{◌then◌, AreEach}
 use Rattle.h1_spec.specs.Grammar.{crlf}
 use Rattle.h1_spec.specs.Heads.{request_line, status_line, is_target, IsRawTarget, IsTextValue}
 use Rattle.h1_spec.specs.Cleaning.{is_empty, is_among, values_of, without, connection_names, kept_names, hops, names_in, clean, clean_trailers, clean_interim, clean_message, one_cookie}
 use Rattle.h1_spec.specs.Targets.{scheme_of, path_behind, IsPathOrQuery, IsTargetOf, HasHost}
 use Rattle.h1_spec.specs.Framing.{codings, lengths, IsCounted, IsLength, is_bodyless, body_by, framing}
 use Rattle.h1_spec.specs.Bodies.{IsBody}
-use Rattle.h1_spec.specs.Http1.{IsInterimHead, IsHttp1}
-use Rattle.h1_spec.specs.Http1Text.{field_lines, status_text, target_text, interim_text, framing_by, framing_written, is_bare, coding_lines, body_text, http1, is_host, is_length, is_web, of_interim, of_fields, of_head, of_body, is_pseudo, has_bad_value, head_text, KeepsLimits}
+use Rattle.h1_spec.specs.Http1.{IsHeadWithin, IsInterimHead, interims_of, IsHttp1}
+use Rattle.h1_spec.specs.Http1Text.{field_lines, status_text, target_text, interim_text, interims_text, framing_by, framing_written, is_bare, coding_lines, body_text, http1, is_host, is_length, is_web, of_interim, of_fields, of_head, of_body, is_pseudo, has_bad_value, head_text, no_form, KeepsLimits}
 use Rattle.h1_spec.specs.Laws.{IsSchemeOf, There, ThereWithin}
 use Rattle.h1_spec.proofs.Lists.{same_name}
 use Rattle.h1_spec.proofs.Cleaned.{lacks_fewer, front_among, clean_lacks, clean_again, clean_twice, trailers_again, no_values, lacks_name, no_connection}
@@ -445,10 +445,18 @@ whole_fields a fs f h k = All-append IsHeadField (host_part a) (clean (hops fs) 
 clean_tail : (fs ts : List Field) → hops fs ≡ [] → (named : List (List ℕ)) → clean_trailers named ts ≡ clean_trailers (hops fs) (clean_trailers named ts)
 clean_tail fs ts e named = sym (ap (λ (names : List (List ℕ)). clean_trailers names (clean_trailers named ts)) e ∙ trailers_again named ts)
 
+-- A text that is written for a message, how the end of its body is found, its heads, and its trailers.
+pub record IsBuilt (L : Bounds) (scheme : Scheme1) (to_head : Bool) (m : Message) : Type 0 where
+  pub whole : IsHttp1 L scheme to_head (clean_message m) (http1 to_head m)
+  pub by : framing to_head whole.head ≡ framing_written to_head (clean_message m)
+  pub heads : (AreEach (IsInterimHead L) (interims_of (clean_message m).start) then IsHeadWithin L whole.head)
+      (interims_text (clean_message m).start ++ head_text (framing_written to_head (clean_message m)) (clean_message m))
+  pub ends : All IsHeadField (clean_message m).trailers
+
 built : (L : Bounds) (scheme : Scheme1) (to_head : Bool) (a : Start) (fs : List Field) (content : List ℕ) (ts : List Field)
     → let m : Message = record { start = a; fields = fs; content = content; trailers = ts } in
     IsValid m → IsSchemeOf a scheme → AreFree (of_head a fs) → AreFree (of_body (framing_written to_head (clean_message m)) content (clean_trailers (hops fs) ts))
-    → KeepsLimits L to_head (clean_message m) → IsHttp1 L scheme to_head (clean_message m) (http1 to_head m)
+    → KeepsLimits L to_head (clean_message m) → IsBuilt L scheme to_head m
 built L scheme to_head (request c) fs content ts valid own_scheme free body keeps =
     let m : Message = record { start = request c; fields = fs; content = content; trailers = ts } in
     let n : Message = clean_message m in
@@ -460,7 +468,7 @@ built L scheme to_head (request c) fs content ts valid own_scheme free body keep
     let by : framing to_head (record { start = request_line c.method (target_text c); fields = all }) ≡ f =
     ap₂ (λ (x y : List (List ℕ)). body_by Empty x y) (written_codings (hops fs) c.authority fs f) (written_lengths (hops fs) c.authority fs f)
     ∙ framing_request (lengths n.fields) (is_bare n (request c)) in
-    record {
+    let whole : IsHttp1 L scheme to_head n (http1 to_head m) = record {
       head = record { start = request_line c.method (target_text c); fields = all };
       trailers = n.trailers;
       text = (
@@ -498,7 +506,8 @@ built L scheme to_head (request c) fs content ts valid own_scheme free body keep
       cleaned = clean_tail all ts (written_hops (hops fs) c.authority fs f) (hops fs);
       content = valid.content;
       fits = keeps.fits;
-    }
+    } in
+    record { whole = whole; by = by; heads = (whole.text.0, whole.text.3.0, whole.text.2, whole.text.3.2, refl); ends = ends }
 built L scheme to_head (response is status) fs content ts valid own_scheme free body keeps =
     let m : Message = record { start = response is status; fields = fs; content = content; trailers = ts } in
     let n : Message = clean_message m in
@@ -511,7 +520,7 @@ built L scheme to_head (response is status) fs content ts valid own_scheme free 
     let by : framing to_head (record { start = status_line status; fields = all }) ≡ f =
     ap₂ (λ (x y : List (List ℕ)). cond (is_bodyless to_head status) Empty (body_by ToEnd x y)) (written_codings (hops fs) [] fs f) (written_lengths (hops fs) [] fs f)
     ∙ framing_response (is_bodyless to_head status) (lengths n.fields) in
-    record {
+    let whole : IsHttp1 L scheme to_head n (http1 to_head m) = record {
       head = record { start = status_line status; fields = all };
       trailers = n.trailers;
       text = (
@@ -534,18 +543,23 @@ built L scheme to_head (response is status) fs content ts valid own_scheme free 
       cleaned = clean_tail all ts (written_hops (hops fs) [] fs f) (hops fs);
       content = valid.content;
       fits = keeps.fits;
-    }
+    } in
+    record { whole = whole; by = by; heads = (whole.text.0, whole.text.3.0, whole.text.2, whole.text.3.2, refl); ends = ends }
 
-pub there_within : ThereWithin
-there_within L scheme to_head m valid own_scheme form keeps =
+pub built_within : (L : Bounds) (scheme : Scheme1) (to_head : Bool) (m : Message) → IsValid m → IsSchemeOf m.start scheme → no_form to_head m ≡ None
+    → KeepsLimits L to_head (clean_message m) → IsBuilt L scheme to_head m
+built_within L scheme to_head m valid own_scheme form keeps =
     let free = none_free (of_head m.start m.fields ++ of_body (framing_written to_head (clean_message m)) m.content (clean_trailers (hops m.fields) m.trailers)) form in
     built L scheme to_head m.start m.fields m.content m.trailers valid own_scheme
     (free_front (of_head m.start m.fields) (of_body (framing_written to_head (clean_message m)) m.content (clean_trailers (hops m.fields) m.trailers)) free)
     (free_back (of_head m.start m.fields) (of_body (framing_written to_head (clean_message m)) m.content (clean_trailers (hops m.fields) m.trailers)) free)
     keeps
 
+pub there_within : ThereWithin
+there_within L scheme to_head m valid own_scheme form keeps = (built_within L scheme to_head m valid own_scheme form keeps).whole
+
 -- without limits each text keeps them
-no_limits : (to_head : Bool) (m : Message) → KeepsLimits no_bounds to_head m
+pub no_limits : (to_head : Bool) (m : Message) → KeepsLimits no_bounds to_head m
 no_limits to_head m = record {
   fits = record { start = no_start_limit m.start; fields = no_fields_limit m.fields; trailers = no_fields_limit m.trailers };
   interims = λ k d i. tt;

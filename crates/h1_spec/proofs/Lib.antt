@@ -40,3 +40,5 @@ pub mod Worked
 pub mod BodyFronts
 pub mod Marking
 pub mod MarkedBodies
+pub mod OneMark
+pub mod MarkedTexts

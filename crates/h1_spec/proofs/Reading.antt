@@ -54,7 +54,7 @@ interim_apart K L i head last x y r s p q e =
     let both = within_front K L p.head head x y r s p.text q e in
     last i.status (sym (ap (λ (h : Head). h.start) both.0) ∙ p.status) p.number.high
 
-abbrev Any : Interim → Type 0
+abbrev pub Any : Interim → Type 0
 Any i = Unit {0}
 
 pub message_is : (a b : Start) (fs gs : List Field) (c d : List ℕ) (ts us : List Field) → a ≡ b → fs ≡ gs → c ≡ d → ts ≡ us

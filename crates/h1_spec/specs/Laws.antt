@@ -22,9 +22,9 @@ use Rattle.h1_spec.specs.Cleaning.{hops, clean, clean_trailers, clean_message}
 use Rattle.h1_spec.specs.Targets.{scheme_of, IsTargetOf}
 use Rattle.h1_spec.specs.Bodies.{IsBody}
 use Rattle.h1_spec.specs.Http1.{IsHttp1}
-use Rattle.h1_spec.specs.Http1Text.{http1, no_form, KeepsLimits}
-use Rattle.bh_spec.specs.Texts.{Text, content_in}
-use Rattle.h1_spec.specs.Marks.{IsMarked}
+use Rattle.h1_spec.specs.Http1Text.{text_of, http1, no_form, KeepsLimits}
+use Rattle.bh_spec.specs.Texts.{Text, bytes_of, content_in}
+use Rattle.h1_spec.specs.Marks.{IsMarked, IsSomeMarked, marked_text}
 use Rattle.h1_spec.specs.Translation.{FromAnswer, read, broken, IsFromAnswer, formed, IsIntoAnswer, IntoAnswer, dead, formless}
 
 -- Bytes are one message at most, whatever the limits.
@@ -206,3 +206,18 @@ FormlessIsTheForm = (L : Bounds) (to_head : Bool) (bytes : List ℕ) (m : Messag
 -- The marked bytes of a text are the content of its message.
 abbrev pub MarksTheContent : Type 0
 MarksTheContent = (L : Bounds) (to_head : Bool) (m : Message) (t : Text) → IsMarked L to_head m t → content_in t ≡ length m.content
+
+-- Where two texts begin with the same bytes, these have the same marks, whatever the messages and the limits.
+abbrev pub OneMarking : Type 0
+OneMarking = (K L : Bounds) (to_head : Bool) (t u : Text) → IsSomeMarked K to_head t → IsSomeMarked L to_head u
+    → (front more others : List ℕ) → bytes_of t ≡ front ++ more → bytes_of u ≡ front ++ others
+    → take (length front) t ≡ take (length front) u
+
+-- The text of a message with its marks is its text.
+abbrev pub MarksTheText : Type 0
+MarksTheText = (to_head : Bool) (m : Message) → bytes_of (marked_text to_head m) ≡ text_of to_head m
+
+-- And its marks are those of an HTTP/1.1 text.
+abbrev pub ThereMarked : Type 0
+ThereMarked = (scheme : Scheme1) (to_head : Bool) (m : Message) → IsValid m → IsSchemeOf m.start scheme → no_form to_head m ≡ None
+    → IsMarked no_bounds to_head (clean_message m) (marked_text to_head (clean_message m))

@@ -12,7 +12,7 @@ ghost use Rattle.h1_spec.specs.Laws.{OneMessage, WithoutLimits, ReadIsValid, One
 ghost use Rattle.h1_spec.specs.Laws.{CleanTrailersTwice, CleanMessageTwice, There, ThereWithin, ThereRead, AndBack, ReadAgain};
 ghost use Rattle.h1_spec.specs.Laws.{IntoThenFrom, IntoThenRead, FromThenInto, FromIntoFrom, OneFrom, SomeFrom, StaysBroken};
 ghost use Rattle.h1_spec.specs.Laws.{OneInto, SomeInto, NoLaterByte, OneMoment, JudgedIsViable, AgreesWithForms, FormedWhereFree};
-ghost use Rattle.h1_spec.specs.Laws.{FreeWhereFormed, FormlessIsTheForm, MarksTheContent};
+ghost use Rattle.h1_spec.specs.Laws.{FreeWhereFormed, FormlessIsTheForm, MarksTheContent, OneMarking, MarksTheText, ThereMarked};
 ghost use Rattle.h1_spec.specs.ChunkStates.{LineBegins, LineEnds, AnyLineBegins};
 ghost use Rattle.h1_spec.specs.Cases.{HopsNamed, CookiesJoined, TrailersCleaned, StarWritten, FormsMissing, SectionsMissing};
 ghost use Rattle.h1_spec.specs.Cases.{WholeTarget, StarRefused, HeadAnswered, HelloTranslated, ChunksTranslated, OptionsRead};
@@ -215,6 +215,21 @@ pub fn formless_is_the_form()
 /// The marked bytes of a text are the content of its message.
 pub fn marks_the_content()
     ensures { MarksTheContent }
+{}
+
+/// Bytes with which texts begin have the same marks in all of them.
+pub fn one_marking()
+    ensures { OneMarking }
+{}
+
+/// The text of a message with its marks is its text.
+pub fn marks_the_text()
+    ensures { MarksTheText }
+{}
+
+/// The marks of what is written for a message are those of an HTTP/1.1 text.
+pub fn there_marked()
+    ensures { ThereMarked }
 {}
 
 // ---- Chunk lines, byte by byte

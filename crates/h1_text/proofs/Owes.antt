@@ -1,25 +1,29 @@
--- What is owed for the items of a message is its text.
-use Rattle.std.proofs.Common.{◌≡◌, Bool, false, cond, ℕ, List, [], ◌∷◌, ◌++◌, map, flat_map, refl, sym, ap, ap₂, ◌∙◌, append_assoc, append-nil}
+-- What is owed for the items of a message is its text with its marks.
+use Rattle.std.proofs.Common.{◌≡◌, Bool, true, false, ℕ, List, [], ◌∷◌, ◌++◌, map, flat_map, length, refl, sym, ap, ap₂, ◌∙◌, append_assoc, append-nil}
 use Rattle.std.proofs.lemmas.Grind.{flat_map-append}
 use Rattle.bh_spec.specs.declared.Omitted.{Omitted}
 use Rattle.bh_spec.specs.declared.Omitted.TheVariants.{Nothing, Trailers, Both}
 use Rattle.bh_spec.specs.Messages.{Field, Interim, Start, request, response, Message}
 use Rattle.bh_spec.specs.Canonical.{cut}
-use Rattle.bh_spec.specs.Items.{Item, interim_response, head, ending, Head, of_request, of_response, start_items, tail_items, trailer_items}
+use Rattle.bh_spec.specs.Items.{Item, interim_response, head, ending, Head, of_request, of_response, start_items, tail_items, trailer_items, items}
 use Rattle.h1_spec.specs.declared.Framing1.{Framing1}
 use Rattle.h1_spec.specs.declared.Framing1.TheVariants.{Empty, Counted, Chunked, ToEnd}
 use Rattle.h1_spec.specs.Grammar.{crlf}
-use Rattle.h1_spec.specs.Http1Text.{field_line, field_lines, interim_text, start_line, said_host, head_text, chunk_text, framing_written, coding_lines, body_text, text_of}
+use Rattle.h1_spec.specs.Http1Text.{field_line, field_lines, interim_text, start_line, said_host, hex_within, head_text, framing_written, coding_lines, text_of}
 use Rattle.h1_spec.specs.Written.{last_text, coding_line}
 use Rattle.h1_spec.specs.Laws.{LeavesOut}
 use Rattle.h1_spec.specs.Http1.{start_of}
-use Rattle.bh_stream.specs.Outputs.{written, plain}
-use Rattle.bh_stream.proofs.Outputs.{written-append, written_plain}
+use Rattle.bh_spec.specs.Texts.{Text}
+use Rattle.h1_spec.specs.Marks.{as_framing, as_content, marked_chunk, marked_body, marked_text}
+use Rattle.h1_spec.proofs.BodyMarks.{framing_none, framing_bytes, framing-append}
+use Rattle.h1_spec.proofs.MarkedTexts.{marks_the_text}
+use Rattle.bh_stream.specs.Outputs.{Output, written, weighed, plain}
+use Rattle.bh_stream.proofs.Outputs.{weighed_bytes, weighed-append, weighed_plain, weighed_shown}
 use Rattle.bh_stream.specs.Tails.{trailers_of}
 use Rattle.bh_stream.proofs.Tails.{content_behind, trailers_behind, no_content}
-use Rattle.h1_text.specs.Owed.{body_out, is_chunked, head_front, head_end, final_out, message_of, at_start, owed}
+use Rattle.h1_text.specs.Owed.{chunk_out, body_out, is_chunked, head_front, head_end, final_out, message_of, at_start, owed}
 use Rattle.h1_text.specs.Laws.{OwesTheText}
-use Rattle.h1_text.proofs.Owing.{body_bytes}
+use Rattle.h1_text.proofs.Owing.{plain-append}
 
 -- ---- the head
 
@@ -48,27 +52,44 @@ head_is f m =
 
 -- ---- the body
 
-abbrev made : Start → List Field → List ℕ → List Field → Message
-made start fields content trailers = record { start = start; fields = fields; content = content; trailers = trailers }
+weighs_framing : (x : List ℕ) → plain x ≡ weighed (as_framing x)
+weighs_framing x = sym (weighed_plain (as_framing x) (framing_none x) ∙ ap plain (framing_bytes x))
+
+chunk_weighs : (chunk : List ℕ) → chunk_out chunk ≡ weighed (marked_chunk chunk)
+chunk_weighs chunk =
+    let line : List ℕ = hex_within 15 (length chunk) ++ crlf in
+    ap₂ (λ (a b : Output). a ++ b) (weighs_framing line)
+    (ap₂ (λ (a b : Output). a ++ b) (sym (weighed_shown chunk)) (weighs_framing crlf) ∙ sym (weighed-append (as_content chunk) (as_framing crlf)))
+    ∙ sym (weighed-append (as_framing line) (as_content chunk ++ as_framing crlf))
+
+chunks_weigh : (chunks : List (List ℕ)) → flat_map chunk_out chunks ≡ weighed (flat_map marked_chunk chunks)
+chunks_weigh [] = refl
+chunks_weigh (chunk ∷ chunks) =
+    ap₂ (λ (a b : Output). a ++ b) (chunk_weighs chunk) (chunks_weigh chunks) ∙ sym (weighed-append (marked_chunk chunk) (flat_map marked_chunk chunks))
+
+chunked_weighs : (m : Message) → body_out true m.content m.trailers ≡ weighed (marked_body Chunked m)
+chunked_weighs m =
+    let chunks : List (List ℕ) = cut 8192 m.content in
+    ap₂ (λ (a b : Output). a ++ b) (chunks_weigh chunks) (weighs_framing (last_text m.trailers))
+    ∙ sym (weighed-append (flat_map marked_chunk chunks) (as_framing (last_text m.trailers)))
 
 -- a head and a body behind it
-bodied_is : (f : Framing1) (start : Start) (fields : List Field) (content : List ℕ) (trailers : List Field)
-    → written (plain (head_front start fields ++ head_end (is_chunked f)) ++ body_out (is_chunked f) content trailers)
-    ≡ head_text f (made start fields content trailers) ++ cond (is_chunked f) (flat_map chunk_text (cut 8192 content) ++ last_text trailers) content
-bodied_is f start fields content trailers =
-    let front : List ℕ = head_front start fields ++ head_end (is_chunked f) in
-    written-append (plain front) (body_out (is_chunked f) content trailers)
-    ∙ ap₂ (λ (a b : List ℕ). a ++ b) (written_plain front ∙ sym (head_is f (made start fields content trailers))) (body_bytes (is_chunked f) content trailers)
+bodied_is : (f : Framing1) (m : Message) → body_out (is_chunked f) m.content m.trailers ≡ weighed (marked_body f m)
+    → plain (head_front m.start m.fields ++ head_end (is_chunked f)) ++ body_out (is_chunked f) m.content m.trailers ≡ weighed (as_framing (head_text f m) ++ marked_body f m)
+bodied_is f m weighs =
+    ap₂ (λ (a b : Output). a ++ b) (ap plain (sym (head_is f m)) ∙ weighs_framing (head_text f m)) weighs
+    ∙ sym (weighed-append (as_framing (head_text f m)) (marked_body f m))
 
-final_is : (f : Framing1) (start : Start) (fields : List Field) (content : List ℕ) (trailers : List Field)
-    → written (final_out f (head_front start fields) content trailers) ≡ head_text f (made start fields content trailers) ++ body_text f (made start fields content trailers)
-final_is Empty start fields content trailers =
-    written_plain (head_front start fields ++ head_end false) ∙ sym (head_is Empty (made start fields content trailers)) ∙ sym (append-nil (head_text Empty (made start fields content trailers)))
-final_is (Counted n) start fields content trailers = bodied_is (Counted n) start fields content trailers
-final_is Chunked start fields content trailers = bodied_is Chunked start fields content trailers
-final_is ToEnd start fields content trailers = bodied_is ToEnd start fields content trailers
+final_is : (f : Framing1) (m : Message) → final_out f (head_front m.start m.fields) m.content m.trailers ≡ weighed (as_framing (head_text f m) ++ marked_body f m)
+final_is Empty m = ap plain (sym (head_is Empty m)) ∙ weighs_framing (head_text Empty m) ∙ ap weighed (sym (append-nil (as_framing (head_text Empty m))))
+final_is (Counted n) m = bodied_is (Counted n) m (sym (weighed_shown m.content))
+final_is Chunked m = bodied_is Chunked m (chunked_weighs m)
+final_is ToEnd m = bodied_is ToEnd m (sym (weighed_shown m.content))
 
 -- ---- the items
+
+abbrev made : Start → List Field → List ℕ → List Field → Message
+made start fields content trailers = record { start = start; fields = fields; content = content; trailers = trailers }
 
 end_trailers : (m : Message) (omitted : Omitted) (padding : ℕ) → LeavesOut m omitted → trailers_of (trailer_items omitted m.trailers ++ ending omitted padding ∷ []) ≡ m.trailers
 end_trailers m Nothing padding h = refl
@@ -85,46 +106,60 @@ tail_made of m omitted padding h =
     (trailers_behind m.content end ∙ end_trailers m omitted padding h)
 
 head_owed : (to_head : Bool) (of : Head) (m : Message) (omitted : Omitted) (padding : ℕ) → LeavesOut m omitted
-    → written (owed to_head at_start (head of m.fields ∷ tail_items m.content m.trailers omitted padding)) ≡ text_of to_head (made (start_of of) m.fields m.content m.trailers)
+    → owed to_head at_start (head of m.fields ∷ tail_items m.content m.trailers omitted padding) ≡ weighed (marked_text to_head (made (start_of of) m.fields m.content m.trailers))
 head_owed to_head of m omitted padding h =
     let n = made (start_of of) m.fields m.content m.trailers in
-    ap (λ (k : Message). written (final_out (framing_written to_head k) (head_front k.start k.fields) k.content k.trailers)) (tail_made of m omitted padding h)
-    ∙ final_is (framing_written to_head n) (start_of of) m.fields m.content m.trailers ∙ no_interims of n
+    ap (λ (k : Message). final_out (framing_written to_head k) (head_front k.start k.fields) k.content k.trailers) (tail_made of m omitted padding h)
+    ∙ final_is (framing_written to_head n) n ∙ no_interims of
   where
-    no_interims : (of : Head) (n : Message) → head_text (framing_written to_head (made (start_of of) m.fields m.content m.trailers)) (made (start_of of) m.fields m.content m.trailers) ++ body_text (framing_written to_head (made (start_of of) m.fields m.content m.trailers)) (made (start_of of) m.fields m.content m.trailers)
-        ≡ text_of to_head (made (start_of of) m.fields m.content m.trailers)
-    no_interims (of_request control) n = refl
-    no_interims (of_response status) n = refl
+    no_interims : (of : Head) → let n = made (start_of of) m.fields m.content m.trailers in
+        weighed (as_framing (head_text (framing_written to_head n) n) ++ marked_body (framing_written to_head n) n) ≡ weighed (marked_text to_head n)
+    no_interims (of_request control) = refl
+    no_interims (of_response status) = refl
 
--- the head and the body don't say which interim responses came before
+-- informational responses before a head
+weighs_heads : (before heads : List ℕ) (body : Text) → plain before ++ weighed (as_framing heads ++ body) ≡ weighed (as_framing (before ++ heads) ++ body)
+weighs_heads before heads body =
+    ap (λ (a : Output). a ++ weighed (as_framing heads ++ body)) (weighs_framing before)
+    ∙ sym (weighed-append (as_framing before) (as_framing heads ++ body))
+    ∙ ap weighed (sym (append_assoc (as_framing before) (as_framing heads) body) ∙ ap (λ (t : Text). t ++ body) (sym (framing-append before heads)))
+
+-- the head and the body don't say which came before
 any_interims : (f : Framing1) (interims : List Interim) (status : ℕ) (fields : List Field) (content : List ℕ) (trailers : List Field)
-    → head_text f (made (response [] status) fields content trailers) ++ body_text f (made (response [] status) fields content trailers)
-    ≡ head_text f (made (response interims status) fields content trailers) ++ body_text f (made (response interims status) fields content trailers)
+    → as_framing (flat_map interim_text interims ++ head_text f (made (response [] status) fields content trailers)) ++ marked_body f (made (response [] status) fields content trailers)
+    ≡ as_framing (flat_map interim_text interims ++ head_text f (made (response interims status) fields content trailers)) ++ marked_body f (made (response interims status) fields content trailers)
 any_interims Empty interims status fields content trailers = refl
 any_interims (Counted n) interims status fields content trailers = refl
 any_interims Chunked interims status fields content trailers = refl
 any_interims ToEnd interims status fields content trailers = refl
 
 interims_owed : (to_head : Bool) (interims : List Interim) (q : List Item)
-    → written (owed to_head at_start (map (λ interim. interim_response interim.status interim.fields) interims ++ q)) ≡ flat_map interim_text interims ++ written (owed to_head at_start q)
+    → owed to_head at_start (map (λ interim. interim_response interim.status interim.fields) interims ++ q) ≡ plain (flat_map interim_text interims) ++ owed to_head at_start q
 interims_owed to_head [] q = refl
 interims_owed to_head (i ∷ interims) q =
-    let rest : List Item = map (λ (interim : Interim). interim_response interim.status interim.fields) interims ++ q in
-    written-append (plain (interim_text i)) (owed to_head at_start rest)
-    ∙ ap₂ (λ (a b : List ℕ). a ++ b) (written_plain (interim_text i)) (interims_owed to_head interims q)
-    ∙ sym (append_assoc (interim_text i) (flat_map interim_text interims) (written (owed to_head at_start q)))
+    ap (λ (z : Output). plain (interim_text i) ++ z) (interims_owed to_head interims q)
+    ∙ sym (append_assoc (plain (interim_text i)) (plain (flat_map interim_text interims)) (owed to_head at_start q))
+    ∙ ap (λ (z : Output). z ++ owed to_head at_start q) (sym (plain-append (interim_text i) (flat_map interim_text interims)))
 
 by_start : (to_head : Bool) (start : Start) (m : Message) (omitted : Omitted) (padding : ℕ) → LeavesOut m omitted
-    → written (owed to_head at_start (start_items start m.fields ++ tail_items m.content m.trailers omitted padding)) ≡ text_of to_head (made start m.fields m.content m.trailers)
+    → owed to_head at_start (start_items start m.fields ++ tail_items m.content m.trailers omitted padding) ≡ weighed (marked_text to_head (made start m.fields m.content m.trailers))
 by_start to_head (request control) m omitted padding h = head_owed to_head (of_request control) m omitted padding h
 by_start to_head (response interims status) m omitted padding h =
     let tail : List Item = tail_items m.content m.trailers omitted padding in
     let at_head : Item = head (of_response status) m.fields in
-    ap (λ (q : List Item). written (owed to_head at_start q)) (append_assoc (map (λ (interim : Interim). interim_response interim.status interim.fields) interims) (at_head ∷ []) tail)
+    let n : Message = made (response [] status) m.fields m.content m.trailers in
+    let f : Framing1 = framing_written to_head n in
+    ap (λ (q : List Item). owed to_head at_start q) (append_assoc (map (λ (interim : Interim). interim_response interim.status interim.fields) interims) (at_head ∷ []) tail)
     ∙ interims_owed to_head interims (at_head ∷ tail)
-    ∙ ap (λ (z : List ℕ). flat_map interim_text interims ++ z)
-    (head_owed to_head (of_response status) m omitted padding h
-    ∙ any_interims (framing_written to_head (made (response [] status) m.fields m.content m.trailers)) interims status m.fields m.content m.trailers)
+    ∙ ap (λ (z : Output). plain (flat_map interim_text interims) ++ z) (head_owed to_head (of_response status) m omitted padding h)
+    ∙ weighs_heads (flat_map interim_text interims) (head_text f n) (marked_body f n)
+    ∙ ap weighed (any_interims f interims status m.fields m.content m.trailers)
 
 pub owes_the_text : OwesTheText
 owes_the_text to_head m omitted padding h = by_start to_head m.start m omitted padding h
+
+-- by its bytes
+pub owes_bytes : (to_head : Bool) (m : Message) (omitted : Omitted) (padding : ℕ) → LeavesOut m omitted
+    → written (owed to_head at_start (items m omitted padding)) ≡ text_of to_head m
+owes_bytes to_head m omitted padding h =
+    ap written (owes_the_text to_head m omitted padding h) ∙ weighed_bytes (marked_text to_head m) ∙ marks_the_text to_head m
