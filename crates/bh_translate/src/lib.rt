@@ -2,11 +2,7 @@
 #![tactic(auto)]
 
 mod from;
-#[cfg(test)]
-mod from_tests;
 mod into;
-#[cfg(test)]
-mod tests;
 
 pub use from::{FromEnd, from_http1};
 pub use into::{IntoEnd, to_http1};
