@@ -1,3 +1,4 @@
+//! Classes of bytes, objects in memory with their counted faults, and a batch before a sink.
 ghost use Rattle.std.specs.Prelude.{◌≡◌, IfOk, false};
 ghost use Rattle.bh_base.specs.MemDoors.{IsFresh};
 

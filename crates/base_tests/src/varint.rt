@@ -1,3 +1,4 @@
+//! Integers of each width, and sets of allowed ones.
 ghost use Rattle.std.specs.Prelude.{◌≡◌, ℕ, List, ◌++◌, take, IfSome, IfNone};
 ghost use Rattle.bh_spec.specs.Integers.{byte_count};
 ghost use Rattle.bh_varint.specs.Step.{IsWhole};

@@ -2,23 +2,12 @@
 ghost use Rattle.std.specs.Prelude.{◌≡◌, true, IfOk, IfSome};
 ghost use Rattle.h1_judge.specs.Views.{IsReady};
 
+use crate::fields::show_fields;
 use bh_base::NoMemory;
-use bh_model::{Fields, Limits, NoForm};
+use bh_model::{Limits, NoForm};
 use bh_stream::{Decode, Event, Pushed};
 use h1_judge::{IntoWhy, Judged};
 use std::alloc::{AllocError, Global};
-
-/// Each field behind a bar.
-fn show_fields(text: &mut Vec<u8>, fields: &Fields) -> Result<(), AllocError> {
-    for i in 0..fields.len() {
-        let (name, value) = fields.line(i);
-        text.extend_from_slice(b"|")?;
-        text.extend_from_slice(name)?;
-        text.extend_from_slice(b"=")?;
-        text.extend_from_slice(value)?;
-    }
-    Ok(())
-}
 
 /// The word of a refusal, and the two numbers of a length.
 fn show_why(text: &mut Vec<u8>, why: &IntoWhy) -> Result<(), AllocError> {

@@ -2,23 +2,12 @@
 ghost use Rattle.std.specs.Prelude.{◌≡◌, true, IfOk, IfSome};
 ghost use Rattle.h1_read.specs.Readings.{IsReady};
 
+use crate::fields::show_fields;
 use bh_base::NoMemory;
-use bh_model::{Fields, H1Why, Limits};
+use bh_model::{H1Why, Limits};
 use bh_stream::{Decode, Event, Pushed};
 use h1_read::{Http1Reading, Scheme1};
 use std::alloc::{AllocError, Global};
-
-/// Each field behind a bar.
-fn show_fields(text: &mut Vec<u8>, fields: &Fields) -> Result<(), AllocError> {
-    for i in 0..fields.len() {
-        let (name, value) = fields.line(i);
-        text.extend_from_slice(b"|")?;
-        text.extend_from_slice(name)?;
-        text.extend_from_slice(b"=")?;
-        text.extend_from_slice(value)?;
-    }
-    Ok(())
-}
 
 /// The control data or the status, if the head was read.
 fn show_head(text: &mut Vec<u8>, reading: &Http1Reading) -> Result<(), AllocError> {
@@ -305,7 +294,12 @@ fn heads_are_judged(rt: HostRuntime) -> Result<(), NoMemory> {
             b"!length",
         ),
         // Of a response.
-        (b"HTTP/1.1 101 \r\n\r\n", 2, false, b"i \x67i \x67!switching"),
+        (
+            b"HTTP/1.1 101 \r\n\r\n",
+            2,
+            false,
+            b"i \x67i \x67!switching",
+        ),
         (
             b"HTTP/1.1 103 \r\nA: more than sixteen\r\n\r\n",
             2,

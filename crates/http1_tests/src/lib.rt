@@ -4,6 +4,8 @@
 #[cfg(test)]
 mod body;
 #[cfg(test)]
+mod fields;
+#[cfg(test)]
 mod head;
 #[cfg(test)]
 mod rules;

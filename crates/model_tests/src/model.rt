@@ -1,3 +1,4 @@
+//! Limits, fields and messages, and the first part that breaks a rule.
 use bh_base::NoMemory;
 use bh_model::{
     Bytes, Control, ControlView, Fields, Interim, Interims, Kind, Limits, Message, Part, Place,

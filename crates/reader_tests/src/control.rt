@@ -1,3 +1,4 @@
+//! Control data and statuses, at every cut.
 use bh_base::NoMemory;
 use bh_control::{ControlReader, ControlStep, StatusReader, StatusStep};
 use bh_model::{Limits, Part};

@@ -1,3 +1,4 @@
+//! Whole messages, their fronts, and each change of one byte.
 use bh_base::NoMemory;
 use bh_decode::{
     Decoder, End, Pushed, ReadError, Spelling, read_message, read_spelling, slow_read_message,

@@ -1,3 +1,4 @@
+//! Sections at every cut, and beside a plain reader.
 ghost use Rattle.std.specs.Prelude.{◌≡◌, IfOk};
 ghost use Rattle.bh_spec.specs.Readings.{reading};
 

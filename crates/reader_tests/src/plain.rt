@@ -1,5 +1,5 @@
-//! A plain reader of sections, to compare with: it judges a section from its start by the rules in words, within 16 bytes of a name or value
-//! and 32 of a section.
+//! A plain reader of sections, to compare with: it judges a section from its start by the rules in words, within 16 bytes of a name
+//! or value and 32 of a section.
 use bh_fields::SectionStep;
 use bh_model::{Form, Part};
 

@@ -1,3 +1,4 @@
+//! Events of messages, and what comes behind a refusal.
 use bh_base::NoMemory;
 use bh_model::{Kind, Limits, Omitted, Part};
 use bh_push::{Decoder, End, Pushed};
