@@ -1,5 +1,4 @@
 //! What heads say: targets, a message's own lines, how a body ends; and sections without a form.
-use crate::fields::show_fields;
 use bh_base::NoMemory;
 use bh_model::{Control, Fields, H1Why, Limits, NoForm};
 use h1_head::{Head1, HeadWhy, StartLine, parse_head};
@@ -8,6 +7,18 @@ use h1_rules::{
     hops_of, target_of,
 };
 use std::alloc::{AllocError, Global};
+
+/// Each field behind a bar.
+fn show_fields(text: &mut Vec<u8>, fields: &Fields) -> Result<(), AllocError> {
+    for i in 0..fields.len() {
+        let (name, value) = fields.line(i);
+        text.extend_from_slice(b"|")?;
+        text.extend_from_slice(name)?;
+        text.extend_from_slice(b"=")?;
+        text.extend_from_slice(value)?;
+    }
+    Ok(())
+}
 
 fn show_control(text: &mut Vec<u8>, control: &Control) -> Result<(), AllocError> {
     text.extend_from_slice(control.scheme.as_slice())?;

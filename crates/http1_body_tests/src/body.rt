@@ -1,7 +1,6 @@
 //! Bodies, whole and byte by byte, and chunks that are written.
 ghost use Rattle.std.specs.Prelude.{◌<◌, ◌≤◌, ◌+◌, length};
 
-use crate::fields::show_fields;
 use bh_base::{MemSink, NoMemory};
 use bh_model::{Fields, Limits};
 use h1_body::{BodyReader, BodyStep, BodyWhy, read_body, write_chunk, write_last};
@@ -24,6 +23,18 @@ fn refused(alloc: Global, cause: u8) -> Told {
         taken: 0,
         text: Vec::new(alloc),
     }
+}
+
+/// Each field behind a bar.
+fn show_fields(text: &mut Vec<u8>, fields: &Fields) -> Result<(), AllocError> {
+    for i in 0..fields.len() {
+        let (name, value) = fields.line(i);
+        text.extend_from_slice(b"|")?;
+        text.extend_from_slice(name)?;
+        text.extend_from_slice(b"=")?;
+        text.extend_from_slice(value)?;
+    }
+    Ok(())
 }
 
 /// What `read_body` reads.

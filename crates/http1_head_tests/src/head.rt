@@ -1,5 +1,4 @@
 //! Heads that are found, parsed and written.
-use crate::fields::show_fields;
 use bh_base::{Failed, MemSink, NoMemory};
 use bh_model::Fields;
 use h1_head::{
@@ -30,6 +29,18 @@ fn show_start(text: &mut Vec<u8>, start: &StartLine) -> Result<(), AllocError> {
         }
         StartLine::Response { status } => text.extend_from_slice(&status.to_be_bytes()),
     }
+}
+
+/// Each field behind a bar.
+fn show_fields(text: &mut Vec<u8>, fields: &Fields) -> Result<(), AllocError> {
+    for i in 0..fields.len() {
+        let (name, value) = fields.line(i);
+        text.extend_from_slice(b"|")?;
+        text.extend_from_slice(name)?;
+        text.extend_from_slice(b"=")?;
+        text.extend_from_slice(value)?;
+    }
+    Ok(())
 }
 
 #[test]

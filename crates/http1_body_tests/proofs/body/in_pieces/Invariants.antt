@@ -1,5 +1,5 @@
 use Rattle.std.proofs.Common.{◌≡◌, ◌≤◌, ◌-◌, false, length}
-use Rattle.http1_tests.proofs.body.in_pieces.Given as goal
+use Rattle.http1_body_tests.proofs.body.in_pieces.Given as goal
 
 abbrev pub invariant-loop-at : goal.invariant-loop-at
 invariant-loop-at l = record {

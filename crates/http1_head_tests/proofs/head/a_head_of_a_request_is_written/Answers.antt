@@ -6,7 +6,7 @@ use Rattle.std.proofs.lemmas.List.Elements.{All-cons, All-nil}
 use Rattle.bh_spec.specs.Bytes.{is_token, is_text_value}
 use Rattle.bh_spec.specs.Messages.{Field, IsToken}
 use Rattle.h1_spec.specs.Heads.{IsHeadField, is_target}
-use Rattle.http1_tests.proofs.head.a_head_of_a_request_is_written.Goals as goal
+use Rattle.http1_head_tests.proofs.head.a_head_of_a_request_is_written.Goals as goal
 
 all_by : (p : ℕ → Bool) (xs : List ℕ) → list_all p xs ≡ true → All (λ b. IsTrue (p b)) xs
 all_by p [] h = All-nil (λ b. IsTrue (p b))
