@@ -1,9 +1,7 @@
-//! Tests of `bh_words` and `bh_cmd`: words and what they mean, and how a run of the command ends.
+//! Tests of `bh_cmd`: how a run of the command ends, and its report.
 #![tactic(auto)]
 
 #[cfg(test)]
 mod cmd;
 #[cfg(test)]
 mod report;
-#[cfg(test)]
-mod words;

@@ -1,9 +1,5 @@
-//! Tests of `bh_model` and `bh_text`: messages, fields and limits; reports, and the writer of a listing.
+//! Tests of `bh_model`: messages, fields and limits.
 #![tactic(auto)]
 
 #[cfg(test)]
 mod model;
-#[cfg(test)]
-mod show;
-#[cfg(test)]
-mod text;
