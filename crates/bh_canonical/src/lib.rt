@@ -3,8 +3,6 @@
 
 mod calling;
 mod sending;
-#[cfg(test)]
-mod tests;
 mod writer;
 
 pub use calling::canonical;

@@ -17,6 +17,3 @@ pub use laws::{begun_is_control_data, one_control, one_next_part, same_from_the_
 pub use sets::numbers;
 pub use status::{StatusReader, StatusStep};
 pub use strings::Strings;
-
-#[cfg(test)]
-mod tests;

@@ -24,6 +24,3 @@ pub use bh_push::{Decoder, End, Pushed};
 pub use laws::{first_refused_byte, one_answer, prefixes_are_viable, some_answer};
 pub use reading::read_message;
 pub use spelling::{ReadError, Spelling, read_spelling, slow_read_message};
-
-#[cfg(test)]
-mod tests;

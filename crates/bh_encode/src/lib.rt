@@ -6,8 +6,6 @@ mod gathered;
 mod known;
 mod laws;
 mod parts;
-#[cfg(test)]
-mod tests;
 mod whole;
 
 pub use encoder::{AtContent, AtHead, Finished, StreamEncoder, WriteFault, begin};

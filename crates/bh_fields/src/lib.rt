@@ -3,13 +3,9 @@
 #![tactic(auto)]
 
 mod laws;
-#[cfg(test)]
-mod plain;
 mod reader;
 mod sets;
 mod steps;
-#[cfg(test)]
-mod tests;
 mod walk;
 
 pub use bh_spec::PieceStep as SectionStep;

@@ -4,8 +4,6 @@
 mod calling;
 mod laws;
 mod sending;
-#[cfg(test)]
-mod tests;
 mod writer;
 
 pub use calling::listed;

@@ -7,8 +7,6 @@ mod decoder;
 mod laws;
 mod parts;
 mod slices;
-#[cfg(test)]
-mod tests;
 
 pub use course::End;
 pub use decoder::{Decoder, Pushed};

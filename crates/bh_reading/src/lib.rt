@@ -4,8 +4,6 @@
 mod checking;
 mod handing;
 mod reading;
-#[cfg(test)]
-mod tests;
 
 pub use checking::check;
 pub use handing::Hands;

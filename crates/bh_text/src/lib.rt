@@ -5,10 +5,6 @@ mod laws;
 mod lines;
 mod reports;
 mod show;
-#[cfg(test)]
-mod show_tests;
-#[cfg(test)]
-mod tests;
 mod trials;
 mod waiting;
 mod writing;

@@ -2,12 +2,8 @@
 #![tactic(auto)]
 
 mod from;
-#[cfg(test)]
-mod from_tests;
 mod into;
 mod laws;
-#[cfg(test)]
-mod tests;
 
 pub use from::{FromEnd, from_http1};
 pub use into::{IntoEnd, to_http1};

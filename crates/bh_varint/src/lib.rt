@@ -266,6 +266,3 @@ impl Partial {
         Step::More
     }
 }
-
-#[cfg(test)]
-mod tests;

@@ -7,8 +7,6 @@ mod line;
 mod reader;
 mod reading;
 mod slices;
-#[cfg(test)]
-mod tests;
 mod trailers;
 mod whole;
 mod writing;

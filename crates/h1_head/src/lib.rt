@@ -7,8 +7,6 @@ mod laws;
 mod reader;
 mod splitting;
 mod start_line;
-#[cfg(test)]
-mod tests;
 mod writing;
 
 pub use field_lines::fill_fields;

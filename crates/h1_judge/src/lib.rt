@@ -4,8 +4,6 @@
 mod judged;
 mod judging;
 mod steps;
-#[cfg(test)]
-mod tests;
 
 pub use h1_rules::Framing1;
 pub use judged::{IntoWhy, Judged};

@@ -5,10 +5,6 @@ mod heads;
 mod laws;
 mod reader;
 mod reading;
-#[cfg(test)]
-mod reading_tests;
-#[cfg(test)]
-mod tests;
 
 pub use h1_rules::{Framing1, Scheme1};
 pub use laws::{judges_as_from, knows_http1, ready_at_start};

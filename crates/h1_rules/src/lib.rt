@@ -8,8 +8,6 @@ mod hops;
 mod judging;
 mod lines;
 mod targets;
-#[cfg(test)]
-mod tests;
 
 pub use cleaning::{clean, clean_into, clean_trailers, clean_trailers_into};
 pub use fitting::{control_fits, fits};

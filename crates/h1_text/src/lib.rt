@@ -8,8 +8,6 @@ mod heads;
 mod job;
 mod laws;
 mod stage;
-#[cfg(test)]
-mod tests;
 mod writer;
 
 pub use laws::the_text_is_owed;

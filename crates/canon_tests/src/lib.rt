@@ -1,0 +1,5 @@
+//! Tests of `bh_canon`: the engine over ports and sources.
+#![tactic(auto)]
+
+#[cfg(test)]
+mod canon;

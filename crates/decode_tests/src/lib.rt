@@ -1,0 +1,5 @@
+//! Tests of `bh_decode`: whole messages.
+#![tactic(auto)]
+
+#[cfg(test)]
+mod decode;

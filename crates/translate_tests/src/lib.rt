@@ -1,0 +1,7 @@
+//! Tests of `bh_translate`: messages that are translated over ports, both ways.
+#![tactic(auto)]
+
+#[cfg(test)]
+mod from;
+#[cfg(test)]
+mod into;
