@@ -9,8 +9,9 @@ answers of bhttp.json. It is plain and slow: it holds the whole input, and is fo
 import re
 import sys
 from dataclasses import dataclass, field
+from functools import lru_cache
 
-DONE, REFUSED, USAGE = 0, 1, 2
+DONE, REFUSED, USAGE, NOT_UTF8 = 0, 1, 2, 8
 USAGE_LINE = "usage: bhttp COMMAND [OPTIONS]\n"
 GREATEST = 2**62 - 1
 CHUNK = 8192
@@ -358,6 +359,7 @@ def summary(message, size):
     return f"done kind={kind} {counts} omitted={message.omitted}\n"
 
 
+@lru_cache(maxsize=1)
 def read(data, limits):
     """The message as far as it was read, whether it is whole, and the report."""
     reader = Reader(data, limits)
@@ -368,8 +370,18 @@ def read(data, limits):
     return reader.message, True, summary(reader.message, len(data))
 
 
+def is_utf8(word):
+    try:
+        word.encode()
+    except UnicodeEncodeError:
+        return False
+    return True
+
+
 def answer(words, data):
     """The status, the output and the report of a call."""
+    if not all(is_utf8(word) for word in words):
+        return NOT_UTF8, b"", ""
     limits = limits_of(words[1:]) if words and words[0] in OUTPUTS else None
     if limits is None:
         return USAGE, b"", USAGE_LINE
@@ -378,8 +390,8 @@ def answer(words, data):
 
 
 def main():
-    is_usage = answer(sys.argv[1:], b"")[0] == USAGE
-    status, output, report = answer(sys.argv[1:], b"" if is_usage else sys.stdin.buffer.read())
+    is_taken = answer(sys.argv[1:], b"")[0] in (DONE, REFUSED)
+    status, output, report = answer(sys.argv[1:], sys.stdin.buffer.read() if is_taken else b"")
     sys.stdout.buffer.write(output)
     sys.stderr.write(report)
     return status
