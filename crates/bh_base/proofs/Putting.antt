@@ -1,5 +1,5 @@
 -- Texts that are put in a batch, one behind the other, and what flushing it sends.
-use Rattle.std.proofs.Common.{◌≡◌, ◌+◌, ℕ, List, [], ◌∷◌, ◌++◌, take, get_or, Option, Some, slice_get, Result, Ok, Err, is_err, Bool, true, false, sym, ap, subst, ◌∙◌, append_assoc, append-nil}
+use Rattle.std.proofs.Common.{◌≡◌, ◌+◌, ℕ, List, [], ◌∷◌, ◌++◌, take, Option, Some, slice_get, Result, Ok, Err, is_err, Bool, true, false, sym, ap, subst, ◌∙◌, append_assoc, append-nil}
 use Rattle.std.specs.List.{flat_map}
 use Rattle.std.proofs.lemmas.List.{take_more}
 use Rattle.std.proofs.lemmas.Option.{slice_get_within, get_or_from_slice_get}
@@ -59,10 +59,12 @@ module _ {S : Type 0} {step : S → Step → S → Type 0} {sent : S → Option 
   all_counted (Ok x) e p f = none_counted e p f
   all_counted (Err x) e p f = one_counted e p f
 
--- the text of one thing more of a list
+-- one thing more of a list, and its text
+pub take_one : {A : Type 0} (xs : List A) (i : ℕ) (x : A) → slice_get xs i ≡ Some x → take (i + 1) xs ≡ take i xs ++ x ∷ []
+take_one {A} xs i x got = take_more xs i x (slice_get_within xs i x got) ∙ ap (λ (y : A). take i xs ++ y ∷ []) (get_or_from_slice_get xs i x x got)
+
 pub text_more : {A : Type 0} (text : A → List ℕ) (xs : List A) (i : ℕ) (x : A) → slice_get xs i ≡ Some x
     → flat_map text (take i xs) ++ text x ≡ flat_map text (take (i + 1) xs)
 text_more text xs i x got =
-    sym (ap (flat_map text) (take_more xs i x (slice_get_within xs i x got)) ∙ flat_map-append text (take i xs) (get_or xs i x ∷ [])
-    ∙ ap (λ y. flat_map text (take i xs) ++ (text y ++ [])) (get_or_from_slice_get xs i x x got)
+    sym (ap (flat_map text) (take_one xs i x got) ∙ flat_map-append text (take i xs) (x ∷ [])
     ∙ ap (λ (l : List ℕ). flat_map text (take i xs) ++ l) (append-nil (text x)))

@@ -253,6 +253,9 @@ pub record Meanings (S : Type 0) : Type 0 where
   pub read_faults : S → ℕ
   pub write_faults : S → ℕ
 
+abbrev pub meanings : {S : Type 0} → (S → Option (List ℕ)) → (S → Option (List ℕ)) → (S → ℕ) → (S → ℕ) → Meanings S
+meanings left sent read_faults write_faults = record { left = left; sent = sent; read_faults = read_faults; write_faults = write_faults }
+
 -- Any number of calls, each of which begins where the one before it ended.
 pub data Chain {S : Type 0} (step : S → Step → S → Type 0) : S → List Step → S → Type 0 where
   none : {s : S} → Chain step s [] s

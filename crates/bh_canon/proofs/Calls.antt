@@ -4,7 +4,7 @@ use Rattle.std.specs.Io.KnownBytes.{IsAtEnd}
 use Rattle.bh_spec.specs.Bounds.{Bounds}
 use Rattle.bh_spec.specs.Messages.{Message}
 use Rattle.bh_spec.specs.Viable.{IsMessageText}
-use Rattle.bh_base.specs.Steps.{Step, Entry, Rose, Meanings, ReadFacts, WriteFacts, ReadLeaves, WriteLeaves}
+use Rattle.bh_base.specs.Steps.{Step, Entry, Rose, Meanings, ReadFacts, WriteFacts, ReadLeaves, WriteLeaves, meanings}
 use Rattle.bh_stream.specs.Logs.{KeepsUp}
 use Rattle.bh_stream.specs.Calls.{StreamCall}
 use Rattle.bh_stream.specs.Telling.{IsLogged}
@@ -47,7 +47,7 @@ module _ (L : Bounds) (output : Message → List ℕ) (Shown : List ℕ → ℕ 
     (read_leaves : (s t : S) (x : Step) → read s x t → ReadLeaves sent write_faults log s x t)
     (write_leaves : (s t : S) (x : Step) → write s x t → WriteLeaves left read_faults ended_at log s x t) where
   pub writing : (s t : S) (x : CanonEnd) (steps : List Step) → StreamCall L output read write steps s (ended x) t → KeepsUp (IsMessageText L) Shown most before steps
-      → WritingFacts L output Shown most (record { left = left; sent = sent; read_faults = read_faults; write_faults = write_faults }) log steps s x t
+      → WritingFacts L output Shown most (meanings left sent read_faults write_faults) log steps s x t
   writing s t x steps call keeps =
       let facts = facts_of L output read_law ended_law write_law read_leaves write_leaves s t (ended x) steps call in
       let counts = counted_call L output read_law ended_law write_law read_leaves write_leaves s t (ended x) steps call in

@@ -14,7 +14,7 @@ use Rattle.bh_spec.specs.Viable.{IsMessageText, IsViable}
 use Rattle.bh_spec.proofs.Viable.{viable_less}
 use Rattle.bh_spec.proofs.Pieces.{next_becomes}
 use Rattle.bh_spec.specs.Answers.{Answer, whole, refused, IsAnswer, IsRefusedAt}
-use Rattle.bh_base.specs.Steps.{Step, Read, Write, BadRead, BadWrite, taken, given, met, meets_end, EndsReading, OnlyReads, OnlyWrites, ReadFacts, WriteFacts, ReadLeaves, WriteLeaves, ChainFacts, Entry, Meanings}
+use Rattle.bh_base.specs.Steps.{Step, Read, Write, BadRead, BadWrite, taken, given, met, meets_end, EndsReading, OnlyReads, OnlyWrites, ReadFacts, WriteFacts, ReadLeaves, WriteLeaves, ChainFacts, Entry, Meanings, meanings}
 use Rattle.bh_base.specs.StepLaws.{taken-append, writes_take_nothing}
 use Rattle.bh_decode.proofs.Answered.{one_answer}
 use Rattle.bh_push.specs.Pushes.{refused_at}
@@ -224,7 +224,7 @@ module _ (L : Bounds) (output : Message → List ℕ) {S : Type 0} {read write :
     (write_leaves : (s t : S) (x : Step) → write s x t → WriteLeaves left read_faults ended log s x t)
     (s t : S) (r : End Summary Refusal) (steps : List Step) (call : StreamCall L output read write steps s r t) where
   abbrev means : Meanings S
-  means = record { left = left; sent = sent; read_faults = read_faults; write_faults = write_faults }
+  means = meanings left sent read_faults write_faults
 
   call_with : PortCall L.input (GivesFronts L output) (Ends L output) read write steps s r t
   call_with = record {

@@ -3,7 +3,7 @@ ghost use Rattle.std.specs.Prelude.{◌≡◌, ◌≤◌, ◌+◌, ◌*◌, ◌/
 ghost use Rattle.bh_spec.specs.Canonical.{canon};
 ghost use Rattle.bh_spec.specs.Listing.{show};
 ghost use Rattle.bh_spec.specs.Viable.{IsMessageText};
-ghost use Rattle.bh_base.specs.Steps.{Meanings, Rose};
+ghost use Rattle.bh_base.specs.Steps.{Rose, meanings};
 ghost use Rattle.bh_model.specs.Ranges.{AreLimits};
 ghost use Rattle.bh_stream.specs.Logs.{HasBody};
 ghost use Rattle.bh_stream.specs.Telling.{IsLogged};
@@ -145,20 +145,8 @@ impl Engine {
 
         // What the port gave and got, by the bytes of its calls, by what it tells of them, and by its log.
         ensures call { CanonCall self.old P.read_step P.write_step port.old (ended result) port.new }
-        ensures told { let means : Meanings P = record {
-          left = P.left;
-          sent = P.sent;
-          read_faults = P.read_faults;
-          write_faults = P.write_faults;
-        } in
-            IsTold self.old canon means port.old (ended result) port.new }
-        ensures complete { let means : Meanings P = record {
-          left = P.left;
-          sent = P.sent;
-          read_faults = P.read_faults;
-          write_faults = P.write_faults;
-        } in
-            IsComplete self.old means port.old (ended result) port.new }
+        ensures told { IsTold self.old canon (meanings P.left P.sent P.read_faults P.write_faults) port.old (ended result) port.new }
+        ensures complete { IsComplete self.old (meanings P.left P.sent P.read_faults P.write_faults) port.old (ended result) port.new }
         ensures log { IsLogged (KeepsLog self.old canon (HasBody (IsMessageText self.old)) 16383) (P.log port.old) (P.log port.new) }
 
         // The faults.
@@ -178,20 +166,8 @@ impl Engine {
 
         // What the port gave and got, by the bytes of its calls, by what it tells of them, and by its log.
         ensures call { ShowCall self.old P.read_step P.write_step port.old (ended result) port.new }
-        ensures told { let means : Meanings P = record {
-          left = P.left;
-          sent = P.sent;
-          read_faults = P.read_faults;
-          write_faults = P.write_faults;
-        } in
-            IsTold self.old show means port.old (ended result) port.new }
-        ensures complete { let means : Meanings P = record {
-          left = P.left;
-          sent = P.sent;
-          read_faults = P.read_faults;
-          write_faults = P.write_faults;
-        } in
-            IsComplete self.old means port.old (ended result) port.new }
+        ensures told { IsTold self.old show (meanings P.left P.sent P.read_faults P.write_faults) port.old (ended result) port.new }
+        ensures complete { IsComplete self.old (meanings P.left P.sent P.read_faults P.write_faults) port.old (ended result) port.new }
         ensures log { IsLogged (KeepsLog self.old show Shown 8223) (P.log port.old) (P.log port.new) }
 
         // The faults.

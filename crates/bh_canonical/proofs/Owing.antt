@@ -1,16 +1,14 @@
 -- Laws of what is still to be written.
-use Rattle.std.proofs.Common.{◌≡◌, ℕ, List, [], ◌∷◌, ◌++◌, length, take, drop, map, flat_map, refl, sym, ◌∙◌, ap, arith, append_assoc, append-nil, length-append}
+use Rattle.std.proofs.Common.{◌≡◌, ℕ, List, [], ◌∷◌, ◌++◌, length, map, flat_map, refl, sym, ◌∙◌, ap, arith, append_assoc, append-nil, length-append}
 use Rattle.std.specs.List.{concat}
 use Rattle.bh_spec.specs.declared.Form.TheVariants.{Indeterminate}
 use Rattle.bh_spec.specs.Integers.{int}
 use Rattle.bh_spec.specs.Messages.{Field}
 use Rattle.bh_spec.specs.Canonical.{string, section, cut}
 use Rattle.bh_spec.specs.Items.{Item, content_byte}
-use Rattle.bh_spec.proofs.Written.{cut_whole}
+use Rattle.bh_spec.proofs.Written.{cut_whole, cut_first}
 use Rattle.bh_stream.specs.Outputs.{Output, written, shown_in, plain, shown}
 use Rattle.bh_stream.proofs.Outputs.{written-append, shown-append, written_plain, written_shown, shown_plain, shown_shown}
-use Rattle.bh_stream.proofs.LogLaws.{take_front}
-use Rattle.bh_encode.proofs.Chunks.{one_more}
 use Rattle.bh_stream.specs.Tails.{content_of, trailers_of}
 use Rattle.bh_stream.proofs.Tails.{content_behind, trailers_behind}
 use Rattle.bh_canonical.specs.Owed.{chunk_out, chunks_out, end_out, tail_owed}
@@ -23,20 +21,8 @@ tail_behind kept bytes q =
     ∙ ap (λ (l : List Field). chunks_out (kept ++ (bytes ++ content_of q)) ++ end_out l) (trailers_behind bytes q)
     ∙ ap (λ (l : List ℕ). chunks_out l ++ end_out (trailers_of q)) (sym (append_assoc kept bytes (content_of q)))
 
-drop_front : (x r : List ℕ) → drop (length x) (x ++ r) ≡ r
-drop_front [] r = refl
-drop_front (a ∷ x) r = drop_front x r
-
--- a whole chunk is the first
-cut_first : (full back : List ℕ) → length full ≡ 8192 → cut 8192 (full ++ back) ≡ full ∷ cut 8192 back
-cut_first full back e =
-    one_more (full ++ back) (omega (arith, length-append full back, e))
-    ∙ ap (λ (k : ℕ). take k (full ++ back) ∷ cut 8192 (drop k (full ++ back))) (sym e)
-    ∙ ap (λ (l : List ℕ). l ∷ cut 8192 (drop (length full) (full ++ back))) (take_front full back)
-    ∙ ap (λ (l : List ℕ). full ∷ cut 8192 l) (drop_front full back)
-
 first_out : (full back : List ℕ) → length full ≡ 8192 → chunks_out (full ++ back) ≡ chunk_out full ++ chunks_out back
-first_out full back e = ap (λ (l : List (List ℕ)). flat_map chunk_out l) (cut_first full back e)
+first_out full back e = ap (λ (l : List (List ℕ)). flat_map chunk_out l) (cut_first 8192 full back (omega arith) e)
 
 one_out : (full : List ℕ) → length full ≡ 8192 → chunks_out full ≡ chunk_out full
 one_out full e = ap chunks_out (sym (append-nil full)) ∙ first_out full [] e ∙ append-nil (chunk_out full)
@@ -54,7 +40,7 @@ tail_past kept bytes full back q e long =
 -- its bytes, behind its length
 pub one_bytes : (full : List ℕ) → length full ≡ 8192 → flat_map string (cut 8192 full) ≡ 96 ∷ (0 ∷ full)
 one_bytes full e =
-    ap (λ (l : List ℕ). flat_map string (cut 8192 l)) (sym (append-nil full)) ∙ ap (λ (l : List (List ℕ)). flat_map string l) (cut_first full [] e)
+    ap (λ (l : List ℕ). flat_map string (cut 8192 l)) (sym (append-nil full)) ∙ ap (λ (l : List (List ℕ)). flat_map string l) (cut_first 8192 full [] (omega arith) e)
     ∙ append-nil (string full) ∙ ap (λ (n : ℕ). int n ++ full) e
 
 -- ---- what goes out

@@ -1,7 +1,7 @@
 -- A command that ended as a call over a port did.
 use Rattle.std.proofs.Common.{◌≡◌, ◌⊎◌, ℕ, List, [], ◌++◌, Option, Some, None, MatchOption, refl, sym, subst, ◌∙◌, ap, append-nil, inl, inr}
 use Rattle.std.specs.Io.KnownBytes.{Appends}
-use Rattle.bh_base.specs.Steps.{Step, Entry, Meanings, Rose, Chain, none, next, Either, ReadLeaves}
+use Rattle.bh_base.specs.Steps.{Step, Entry, Meanings, Rose, Chain, none, next, Either, ReadLeaves, meanings}
 use Rattle.bh_spec.specs.declared.H1Why.{H1Why}
 use Rattle.bh_spec.specs.declared.Refusal.{Refusal}
 use Rattle.bh_spec.specs.declared.Summary.{Summary}
@@ -177,7 +177,7 @@ module _ {S : Type 0} {read : S → Step → S → Type 0} {sent : S → Option 
     pub checked_port : (x : CheckEnd) → SourceCheck L read s (checked x) t → SourceTold L (checked x) (left s) (left t)
         → SourceCompletes L (checked x) (left s) (read_faults s) (read_faults t)
         → (x ≡ checks.ReadFault → Rose (read_faults s) (read_faults t)) → ((x ≡ checks.ReadFault → ⊥) → read_faults t ≡ read_faults s)
-        → CheckRun L read (record { left = left; sent = sent; read_faults = read_faults; write_faults = write_faults }) s (exit_of (checked x)) t
+        → CheckRun L read (meanings left sent read_faults write_faults) s (exit_of (checked x)) t
     checked_port x call told complete rf qr =
         let same = reads_send_nothing call.call.chain in
         record {

@@ -6,7 +6,7 @@ use Rattle.bh_spec.specs.declared.Refusal.{Refusal}
 use Rattle.bh_spec.specs.Bounds.{Bounds, default_bounds}
 use Rattle.bh_spec.specs.Answers.{Answer, refused, IsAnswer}
 use Rattle.bh_model.specs.declared.causes.Cause.TheVariants.{Binary, Http1, Form}
-use Rattle.bh_base.specs.Steps.{Step, Chain, none, Either, Meanings, Rose, taken, given, met, fails, is_bad_write, WriteFacts, WriteLeaves, IsQuiet, StopsAt, Entry}
+use Rattle.bh_base.specs.Steps.{Step, Chain, none, Either, Meanings, Rose, taken, given, met, fails, is_bad_write, WriteFacts, WriteLeaves, IsQuiet, StopsAt, Entry, meanings}
 use Rattle.bh_base.specs.StepLaws.{stops_fails, bad_writes_fail, stayed, rose}
 use Rattle.bh_base.specs.SurePorts.{added}
 use Rattle.bh_base.specs.SureLaws.{added_is}
@@ -30,7 +30,7 @@ use Rattle.bh_cmd.proofs.Ended.{nothing}
 use Rattle.bh_cmd.proofs.Short.{text_few, sum_few}
 
 abbrev trial_means : Meanings TrialView
-trial_means = record { left = trial_left; sent = untold_bytes; read_faults = no_faults; write_faults = no_faults }
+trial_means = meanings trial_left untold_bytes no_faults no_faults
 
 -- What the engine says of its call, when its port counted what was written.
 module _ (n : ℕ) (w : TrialView) where
@@ -155,7 +155,7 @@ module _ {S : Type 0} {write : S → Step → S → Type 0} {left sent : S → O
     (law : (s t : S) (x : Step) → write s x t → WriteFacts sent write_faults s x t) (leaves : (s t : S) (x : Step) → write s x t → WriteLeaves left read_faults ended log s x t)
     (n : ℕ) (summary : Summary) (line : List ℕ) (is_line : IsTrialLine n summary line)
     (complete : EndsWith n (end.Done summary)) {s t : S} where
-  pub trial_told : (exit : Exit) → IsToldLine write summary line s exit t → TrialExitFacts n write (record { left = left; sent = sent; read_faults = read_faults; write_faults = write_faults }) s exit t
+  pub trial_told : (exit : Exit) → IsToldLine write summary line s exit t → TrialExitFacts n write (meanings left sent read_faults write_faults) s exit t
   trial_told exit h =
       let facts = write_chain law h.chain in
       let same = writes_leave leaves h.chain in

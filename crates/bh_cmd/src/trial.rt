@@ -1,6 +1,6 @@
 //! The command `trial`.
 ghost use Rattle.std.specs.Prelude.{◌≤◌};
-ghost use Rattle.bh_base.specs.Steps.{Meanings};
+ghost use Rattle.bh_base.specs.Steps.{meanings};
 ghost use Rattle.bh_text.specs.Reports.{trial_line};
 ghost use Rattle.bh_cmd.specs.Runs.{TrialExitFacts, IsToldLine};
 
@@ -36,13 +36,7 @@ fn tell<P: Port>(content: u64, summary: Summary, trial: &TrialPort, port: &mut P
 /// did.
 pub(crate) fn trial<P: Port>(alloc: Global, content: u64, port: &mut P) -> Exit
     requires { content ≤ 67108864 }
-    ensures { let means : Meanings P = record {
-      left = P.left;
-      sent = P.sent;
-      read_faults = P.read_faults;
-      write_faults = P.write_faults;
-    } in
-        TrialExitFacts content P.write_step means port.old result port.new }
+    ensures { TrialExitFacts content P.write_step (meanings P.left P.sent P.read_faults P.write_faults) port.old result port.new }
 {
     let Ok(mut engine) = Engine::new(alloc, &Limits::default()) else {
         return Exit::NoMemory;

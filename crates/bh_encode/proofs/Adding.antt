@@ -1,22 +1,21 @@
 -- Texts that grow in memory, piece by piece.
-use Rattle.std.proofs.Common.{◌≡◌, ◌+◌, ℕ, List, [], ◌∷◌, ◌++◌, length, take, map, flat_map, get_or, Option, Some, unwrap_or, slice_get, sym, ap, ◌∙◌, append_assoc, append-nil}
-use Rattle.std.proofs.lemmas.List.{length-append, take_more}
-use Rattle.std.proofs.lemmas.Option.{slice_get_within, unwrap_or-slice_get}
+use Rattle.std.proofs.Common.{◌≡◌, ◌+◌, ℕ, List, [], ◌∷◌, ◌++◌, length, take, map, flat_map, Some, slice_get, sym, ap, ◌∙◌, append_assoc, append-nil}
+use Rattle.std.proofs.lemmas.List.{length-append}
 use Rattle.bh_spec.specs.declared.Form.TheVariants.{Known}
 use Rattle.bh_spec.specs.Integers.{int, byte_count, least_width}
 use Rattle.bh_spec.specs.Messages.{Field, Start, request, response}
-use Rattle.bh_spec.specs.Canonical.{string, lines, start, interim}
+use Rattle.bh_spec.specs.Canonical.{string, line, lines, start, interim}
 use Rattle.bh_spec.proofs.Widths.{length-vi}
+use Rattle.bh_base.proofs.Putting.{take_one, text_more}
 use Rattle.bh_model.specs.declared.control_data.Control as stored
 use Rattle.bh_model.specs.declared.informational.Interim as held
 use Rattle.bh_model.specs.Values.{control_of, interim_of, control_in}
-use Rattle.bh_encode.proofs.Putting.{line_more}
 
 -- one line more, in bytes and in text
 pub bytes_more : (fields : List Field) (i : ℕ) (field : Field) → slice_get fields i ≡ Some field
     → length (lines (take (i + 1) fields)) ≡ length (lines (take i fields)) + (length (string field.name) + length (string field.value))
 bytes_more fields i field got =
-    ap length (sym (line_more fields i field got)) ∙ length-append (lines (take i fields)) (string field.name ++ string field.value)
+    ap length (sym (text_more line fields i field got)) ∙ length-append (lines (take i fields)) (string field.name ++ string field.value)
     ∙ ap (λ (n : ℕ). length (lines (take i fields)) + n) (length-append (string field.name) (string field.value))
 
 pub line_added : (text before after : List ℕ) (fields : List Field) (i : ℕ) (field : Field) → slice_get fields i ≡ Some field → before ≡ text ++ lines (take i fields)
@@ -25,7 +24,7 @@ line_added text before after fields i field got so_far e =
     e ∙ append_assoc before (string field.name) (string field.value)
     ∙ ap (λ (x : List ℕ). x ++ (string field.name ++ string field.value)) so_far
     ∙ append_assoc text (lines (take i fields)) (string field.name ++ string field.value)
-    ∙ ap (λ (x : List ℕ). text ++ x) (line_more fields i field got)
+    ∙ ap (λ (x : List ℕ). text ++ x) (text_more line fields i field got)
 
 -- ---- what a message begins with
 
@@ -43,8 +42,6 @@ texts_more (i ∷ interims) one = ap (λ (x : List ℕ). interim Known (interim_
 pub interim_added : (text before after : List ℕ) (interims : List held.Interim) (i : ℕ) (one : held.Interim) → slice_get interims i ≡ Some one → before ≡ text ++ interims_text (take i interims)
     → after ≡ before ++ interim Known (interim_of one) → after ≡ text ++ interims_text (take (i + 1) interims)
 interim_added text before after interims i one got so_far e =
-    let within = slice_get_within interims i one got in
-    let is_one : get_or interims i one ≡ one = sym (unwrap_or-slice_get interims i one) ∙ ap (λ (o : Option held.Interim). unwrap_or o one) got in
     let more : interims_text (take (i + 1) interims) ≡ interims_text (take i interims) ++ interim Known (interim_of one) =
-    ap interims_text (take_more interims i one within ∙ ap (λ (x : held.Interim). take i interims ++ x ∷ []) is_one) ∙ texts_more (take i interims) one in
+    ap interims_text (take_one interims i one got) ∙ texts_more (take i interims) one in
     e ∙ ap (λ (x : List ℕ). x ++ interim Known (interim_of one)) so_far ∙ append_assoc text (interims_text (take i interims)) (interim Known (interim_of one)) ∙ ap (λ (x : List ℕ). text ++ x) (sym more)

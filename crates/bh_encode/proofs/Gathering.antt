@@ -3,7 +3,7 @@ use Rattle.std.proofs.Common.{◌≡◌, ℕ, List, [], ◌++◌, sym, ap, ◌�
 use Rattle.bh_base.specs.Steps.{Step}
 use Rattle.bh_base.specs.Batches.{BatchView, Puts}
 use Rattle.bh_encode.specs.Gathering.{Gathers}
-use Rattle.bh_encode.proofs.Putting.{puts_on, puts_as}
+use Rattle.bh_base.proofs.Putting.{puts_on, puts_as}
 
 module _ {S : Type 0} {step : S → Step → S → Type 0} where
   -- What is gathered is put, and then the bytes.

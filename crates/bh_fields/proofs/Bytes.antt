@@ -1,5 +1,5 @@
 -- From one state of a section to the next by the bytes of names and values, and at the end of a line.
-use Rattle.std.proofs.Common.{◌≡◌, ◌<◌, ◌≤◌, ◌+◌, ◌-◌, ◌⊎◌, ◌↔◌, arith, ℕ, zero, suc, Bool, true, false, IsTrue, List, [], ◌∷◌, ◌++◌, length, Option, Some, None, refl, sym, ap, subst, ◌∙◌, inl, inr}
+use Rattle.std.proofs.Common.{◌≡◌, ◌<◌, ◌≤◌, ◌+◌, ◌-◌, ◌/◌, ◌⊎◌, ◌↔◌, arith, ℕ, zero, suc, Bool, true, false, IsTrue, List, [], ◌∷◌, ◌++◌, length, Option, Some, None, refl, sym, ap, subst, ◌∙◌, inl, inr}
 use Rattle.std.specs.Prelude.{option_map, option_to_list}
 use Rattle.std.specs.Char.{to_ascii_lowercase}
 use Rattle.std.proofs.lemmas.List.{length-append}
@@ -15,7 +15,7 @@ use Rattle.bh_spec.specs.Texts.{Text, mark}
 use Rattle.bh_varint.specs.Step.{IsUnfinished}
 use Rattle.bh_varint.proofs.Reading.{unfinished_nil}
 use Rattle.bh_model.specs.Rules.{IsNameBehind}
-use Rattle.bh_model.specs.Lines.{FieldsView, name_grown_by, value_grown_by}
+use Rattle.bh_model.specs.Lines.{FieldsView, lines_room, making_room, making_count, name_grown_by, value_grown_by}
 use Rattle.bh_fields.specs.declared.walk.Phase.{Phase}
 use Rattle.bh_fields.specs.declared.walk.Phase.TheVariants as phases
 use Rattle.bh_spec.specs.declared.Judged.TheVariants as judged
@@ -23,7 +23,7 @@ use Rattle.bh_fields.specs.Sets.{values_set}
 use Rattle.bh_fields.specs.Rests.{Spot, further, with_line, AreGood, LinesLeft, ValueLeft, NameLeft, NameBody}
 use Rattle.bh_fields.specs.Bytewise.{Steps, AreSame, HasNone}
 use Rattle.bh_fields.specs.Names.{MayBePseudo, NameTakes, flag_behind, ValueTakes, IsValueByte}
-use Rattle.bh_fields.specs.Points.{Point, spot_of, RestOf, LinesAt, NamedAt, part_of, IsSized}
+use Rattle.bh_fields.specs.Points.{Point, spot_of, RestOf, LinesAt, NamedAt, part_of, most_of, IsSized}
 use Rattle.bh_fields.specs.Stepping.{Moves, IsStep}
 use Rattle.bh_fields.specs.States.{NextState, NamedState, making_of, NameState, InValue}
 use Rattle.bh_fields.proofs.Strings.{line_of, name_whole, flag_on, name_good, flag_good, name_takes, value_takes, value_good, value_whole}
@@ -31,7 +31,7 @@ use Rattle.bh_fields.proofs.Lines.{name_forth, name_back, name_to_value, value_t
 use Rattle.bh_fields.proofs.Counting.{name_allowed, values_begin, name_left_is, value_left_is, good_on}
 use Rattle.bh_fields.proofs.Memory.{lines_room-push}
 use Rattle.bh_fields.proofs.States.{NumberText, ValuesAt, NameAt, ValueAt, steps_same, same_on, turned, rest_in, steps_in, line_is, name_rest, value_rest_of}
-use Rattle.bh_fields.proofs.Changes.{with_lines, of_used, sized_used}
+use Rattle.bh_fields.proofs.Changes.{with_lines, of_used, sized_at, sized_used}
 
 -- ---- the first byte of a name
 
@@ -56,15 +56,16 @@ start_fits p n bytes z h some one =
     let spare : 3 ≤ p.fields.spare = omega (arith, r.1, r.2, h.between.spare, h.between.room) in
     (spare, omega (arith, h.between.free))
 
+-- what was made for a section is made for it with other lines
+sized_lines : (p : Point) (fields : FieldsView) → IsSized p → fields.spare + lines_room fields.lines + making_room fields.making ≡ most_of p.limits
+    → fields.free + length fields.lines + making_count fields.making ≡ most_of p.limits / 3 → IsSized (with_lines fields p)
+sized_lines p fields z bytes count =
+    record { part_is = z.part_is; part_low = z.part_low; most_is = z.most_is; most_high = z.most_high; bytes = bytes; count = count }
+
 sized_started : (p : Point) (fields : FieldsView) → IsSized p → p.fields.making ≡ None → IsStarted p.fields fields → IsSized (with_lines fields p)
-sized_started p fields z idle s = record {
-  part_is = z.part_is;
-  part_low = z.part_low;
-  most_is = z.most_is;
-  most_high = z.most_high;
-  bytes = rw (s.lines, s.making) (omega (arith, s.spare, rw idle at z.bytes));
-  count = rw (s.lines, s.making) (omega (arith, s.free, rw idle at z.count));
-}
+sized_started p fields z idle s = sized_lines p fields z
+    (rw (s.lines, s.making) (omega (arith, s.spare, rw idle at z.bytes)))
+    (rw (s.lines, s.making) (omega (arith, s.free, rw idle at z.count)))
 
 -- the same state with the lines given by an equation
 abbrev spot_with : Point → List Field → Spot
@@ -118,14 +119,9 @@ making_name : (byte : ℕ) (name : List ℕ) (old new : FieldsView) → old.maki
 making_name byte name old new e s = s.making ∙ ap (option_map (name_grown_by (byte ∷ []))) e
 
 sized_named : (p : Point) (byte : ℕ) (name : List ℕ) (fields : FieldsView) → IsSized p → p.fields.making ≡ making_of name [] → IsNamedOn byte p.fields fields → IsSized (with_lines fields p)
-sized_named p byte name fields z e s = record {
-  part_is = z.part_is;
-  part_low = z.part_low;
-  most_is = z.most_is;
-  most_high = z.most_high;
-  bytes = rw (s.lines, making_name byte name p.fields fields e s) (omega (arith, s.spare, rw e at z.bytes, length-append name (to_ascii_lowercase byte ∷ [])));
-  count = rw (s.lines, making_name byte name p.fields fields e s) (omega (arith, s.free, rw e at z.count));
-}
+sized_named p byte name fields z e s = sized_lines p fields z
+    (rw (s.lines, making_name byte name p.fields fields e s) (omega (arith, s.spare, rw e at z.bytes, length-append name (to_ascii_lowercase byte ∷ []))))
+    (rw (s.lines, making_name byte name p.fields fields e s) (omega (arith, s.free, rw e at z.count)))
 
 -- the point behind a byte of a name
 abbrev pub named_point : Bool → FieldsView → Point → Point
@@ -141,14 +137,7 @@ named_point flag fields p = record {
 }
 
 sized_flag : (flag : Bool) (p : Point) → IsSized p → IsSized (named_point flag p.fields p)
-sized_flag flag p z = record {
-  part_is = z.part_is;
-  part_low = z.part_low;
-  most_is = z.most_is;
-  most_high = z.most_high;
-  bytes = z.bytes;
-  count = z.count;
-}
+sized_flag flag p z = sized_at p p.form p.place p.total p.used p.number flag z
 
 name_steps : (p : Point) (name : List ℕ) (m byte : ℕ) → Steps (NameAt p name (suc m)) (NameAt p (name ++ to_ascii_lowercase byte ∷ []) m) parts.Name byte
 name_steps p name m byte = record {
@@ -307,14 +296,9 @@ pub sized_valued : (p : Point) (byte : ℕ) (value : List ℕ) (m : ℕ) (fields
     → IsSized (valued_point fields p)
 sized_valued p byte value m fields z h s =
     let making : fields.making ≡ making_of h.name (value ++ byte ∷ []) = making_value p byte h.name value fields h.valued.making s in
-    record {
-      part_is = z.part_is;
-      part_low = z.part_low;
-      most_is = z.most_is;
-      most_high = z.most_high;
-      bytes = rw (s.lines, making) (omega (arith, s.spare, rw h.valued.making at z.bytes, length-append value (byte ∷ [])));
-      count = rw (s.lines, making) (omega (arith, s.free, rw h.valued.making at z.count));
-    }
+    sized_lines p fields z
+    (rw (s.lines, making) (omega (arith, s.spare, rw h.valued.making at z.bytes, length-append value (byte ∷ []))))
+    (rw (s.lines, making) (omega (arith, s.free, rw h.valued.making at z.count)))
 
 value_taken : (p : Point) (value : List ℕ) (m byte : ℕ) (fields : FieldsView) → IsSized p → InValue p value (suc m) → ValueTakes value (suc m) byte
     → IsValuedOn byte p.fields fields → InValue (valued_point fields p) (value ++ byte ∷ []) m
@@ -404,14 +388,9 @@ line_ended p value fields z h s = (
     lines = s.lines ∙ ap (λ (o : Option Field). p.fields.lines ++ option_to_list o) h.valued.making
 
     sized : IsSized (with_lines fields p)
-    sized = record {
-      part_is = z.part_is;
-      part_low = z.part_low;
-      most_is = z.most_is;
-      most_high = z.most_high;
-      bytes = rw (lines, s.making) (omega (arith, s.spare, rw h.valued.making at z.bytes, lines_room-push p.fields.lines (line_of h.name value)));
-      count = rw (lines, s.making) (omega (arith, s.free, rw h.valued.making at z.count, length-append p.fields.lines (line_of h.name value ∷ [])));
-    }
+    sized = sized_lines p fields z
+        (rw (lines, s.making) (omega (arith, s.spare, rw h.valued.making at z.bytes, lines_room-push p.fields.lines (line_of h.name value))))
+        (rw (lines, s.making) (omega (arith, s.free, rw h.valued.making at z.count, length-append p.fields.lines (line_of h.name value ∷ []))))
 
 pub line_ended_same : (p : Point) (value : List ℕ) (first : Bool) (fields : FieldsView) → InValue p value 0 → IsEndedOn p.fields fields
     → AreSame (RestOf (phases.Value 0 first) p) (LinesAt (with_lines fields p))

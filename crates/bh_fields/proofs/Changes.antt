@@ -1,8 +1,10 @@
 -- What is stored of a section, with other numbers, lines and bytes.
-use Rattle.std.proofs.Common.{◌≡◌, ℕ, List, Option, Some, sym, ap, ◌∙◌, unwrap_or}
+use Rattle.std.proofs.Common.{◌≡◌, ℕ, Bool, List, Option, Some, sym, ap, ◌∙◌, unwrap_or}
+use Rattle.bh_spec.specs.declared.Form.{Form}
 use Rattle.bh_spec.specs.Bounds.{Bounds}
 use Rattle.bh_spec.specs.Messages.{Field}
 use Rattle.bh_spec.specs.Texts.{Text}
+use Rattle.bh_model.specs.declared.field.Place.{Place}
 use Rattle.bh_model.specs.Lines.{FieldsView}
 use Rattle.bh_fields.specs.declared.walk.Phase.{Phase}
 use Rattle.bh_fields.specs.declared.walk.Phase.TheVariants as phases
@@ -64,8 +66,10 @@ of_used used p = record {
   fields = p.fields;
 }
 
-pub sized_number : (number : List ℕ) (p : Point) → IsSized p → IsSized (with_number number p)
-sized_number number p z = record {
+-- what was made for a section is made for it at each of its points
+pub sized_at : (p : Point) (form : Form) (place : Place) (total used : ℕ) (number : List ℕ) (flag : Bool) → IsSized p
+    → IsSized (record { limits = p.limits; form = form; place = place; total = total; used = used; number = number; flag = flag; fields = p.fields })
+sized_at p form place total used number flag z = record {
   part_is = z.part_is;
   part_low = z.part_low;
   most_is = z.most_is;
@@ -74,15 +78,11 @@ sized_number number p z = record {
   count = z.count;
 }
 
+pub sized_number : (number : List ℕ) (p : Point) → IsSized p → IsSized (with_number number p)
+sized_number number p z = sized_at p p.form p.place p.total p.used number p.flag z
+
 pub sized_used : (used : ℕ) (p : Point) → IsSized p → IsSized (of_used used p)
-sized_used used p z = record {
-  part_is = z.part_is;
-  part_low = z.part_low;
-  most_is = z.most_is;
-  most_high = z.most_high;
-  bytes = z.bytes;
-  count = z.count;
-}
+sized_used used p z = sized_at p p.form p.place p.total used p.number p.flag z
 
 -- a move behind a byte that was taken
 pub moved : (judged : Judged) (R : Bounds → List Field → Text → Type 0) (now : Phase) (p q : Point) (byte : ℕ) (phase : Phase) (r : Point) → IsSame p q

@@ -21,7 +21,7 @@ use Rattle.bh_varint.specs.Numbers.{NumberThen}
 use Rattle.bh_fields.specs.Rests.{CanEnd, HasMore, NameBody, IsAtEnd}
 use Rattle.bh_fields.specs.Points.{Point, spot_of, RestOf, LinesAt, NamedAt, part_of, most_of, IsSized}
 use Rattle.bh_fields.specs.Stepping.{Moves, IsStep}
-use Rattle.bh_fields.specs.States.{IsBounded, LengthState, NextState, LineState, NamedState, ValueLengthState, InValue, IsFull}
+use Rattle.bh_fields.specs.States.{IsBounded, Between, LengthState, NextState, LineState, NamedState, ValueLengthState, InValue, IsFull}
 use Rattle.bh_spec.proofs.Widths.{count_1}
 use Rattle.bh_fields.proofs.Strings.{value_begun}
 use Rattle.bh_fields.proofs.Lines.{lines_to_number, number_to_lines, end_to_lines, lines_to_end}
@@ -171,6 +171,10 @@ next_more p z h part = (
 
 -- ---- the length of a name
 
+between_number : (number : List ℕ) (p : Point) → Between p → Between (with_number number p)
+between_number number p b =
+    record { idle = b.idle; flag = b.flag; good = b.good; bounded = b.bounded; room = b.room; spare = b.spare; free = b.free }
+
 pub line_more : (p : Point) (byte : ℕ) (number : List ℕ) → IsSized p → LineState p
     → GoesOn (names_set p.form (part_of p.limits) (Some (p.total - p.used))) (p.number ++ byte ∷ [])
     → number ≡ p.number ++ byte ∷ [] → IsStep judged.More phases.NameLength p byte phases.NameLength (with_number number p)
@@ -178,15 +182,7 @@ line_more p byte number z h on en =
     subst (λ (x : List ℕ). IsStep judged.More phases.NameLength p byte phases.NameLength (with_number x p)) (sym en) (
       sized_number (p.number ++ byte ∷ []) p z,
       record {
-        between = record {
-          idle = h.between.idle;
-          flag = h.between.flag;
-          good = h.between.good;
-          bounded = h.between.bounded;
-          room = h.between.room;
-          spare = h.between.spare;
-          free = h.between.free;
-        };
+        between = between_number (p.number ++ byte ∷ []) p h.between;
         more = h.more;
         live = on.begins;
         unfinished = on.unfinished;
@@ -203,15 +199,7 @@ line_step p byte n w number whole =
 pub line_whole : (p : Point) (byte n : ℕ) (w : Width) → IsSized p → LineState p
     → IsWhole (names_set p.form (part_of p.limits) (Some (p.total - p.used))) (p.number ++ byte ∷ []) n w → NamedState (with_number [] p) n (byte_count w)
 line_whole p byte n w z h whole = record {
-  between = record {
-    idle = h.between.idle;
-    flag = h.between.flag;
-    good = h.between.good;
-    bounded = h.between.bounded;
-    room = h.between.room;
-    spare = h.between.spare;
-    free = h.between.free;
-  };
+  between = between_number [] p h.between;
   allowed = whole.allowed;
   number = refl;
 }

@@ -19,7 +19,6 @@ use Rattle.bh_control.proofs.Following.{start_left}
 use Rattle.bh_model.specs.declared.field.Place.TheVariants.{Header}
 use Rattle.bh_spec.specs.Items.{Item, Head, of_request, interim_response, head}
 use Rattle.bh_spec.specs.Residuals.{IsResidual}
-use Rattle.bh_spec.specs.Yields.{Yields}
 use Rattle.bh_spec.proofs.Residuals.{residual_same}
 use Rattle.bh_push.specs.declared.course.Course.{Course}
 use Rattle.bh_push.specs.declared.course.Stage.{Stage}
@@ -32,6 +31,7 @@ use Rattle.bh_push.specs.Standing.{read_in}
 use Rattle.bh_push.specs.Courses.{head_shown, shown_head, InSection, head_of, at_by, place_of, zeros_of, IsAt, IsOpenBy, IsOpen, IsSection, IsControlData, IsCourse, Walked, Says}
 use Rattle.bh_push.specs.declared.course.Stepped.{Stepped}
 use Rattle.bh_push.proofs.Courses.{header_kind, interim_kind}
+use Rattle.bh_push.proofs.Ends.{yields_into}
 use Rattle.bh_push.proofs.Walking.{begun_says}
 
 -- ---- a number has a byte
@@ -86,21 +86,6 @@ control_begun v = record {
   left = record { bytes = []; within = start_left v.limits; anyway = start_left no_bounds };
   more = λ c h. control_some v.limits c (subst (ControlOf v.limits c) (nothing ((start_left v.limits).text ++ []) (ap bytes_of (append-nil (start_left v.limits).text) ∙ (start_left v.limits).same))
       ((start_left v.limits).back c [] h));
-}
-
--- ---- what is told by another word
-
-pub yields_into : {I : Type 0} (A B : I → Text → Type 0) (gives : I → List Item) (S : I → List Item → Text → Type 0) → ((i : I) (t : Text) → A i t → B i t) → (q : List Item) (t : Text)
-    → Yields A gives S q t → Yields B gives S q t
-yields_into A B gives S to q t y = record {
-  thing = y.thing;
-  text = y.text;
-  rest = y.rest;
-  more = y.more;
-  spelled = to y.thing y.text y.spelled;
-  behind = y.behind;
-  items = y.items;
-  joined = y.joined;
 }
 
 -- ---- what stands behind control data and statuses

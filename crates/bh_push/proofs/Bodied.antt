@@ -25,11 +25,11 @@ use Rattle.bh_push.specs.Hands.{kind_of_shown, kind_at}
 use Rattle.bh_push.specs.Standing.{Comes, head_behind, LinesAre, IsRight, EndsWith, IsPrompt}
 use Rattle.bh_control.specs.Control.{ControlState}
 use Rattle.bh_push.specs.Courses.{head_shown, shown_head, shown_lines, InSection, Stays, Halts, kind_now, IsFull, head_of, at_by, place_of, zeros_of, IsSection, IsCourse, IsOpenBy, IsOpen, Taken, Says}
-use Rattle.bh_push.proofs.Begun.{section_begun, yields_into}
+use Rattle.bh_push.proofs.Begun.{section_begun}
 use Rattle.bh_push.proofs.Courses.{Shown, body_kind, halts_at, comes_here, stays_in, head_kept, same_lines_shown, taken_of, dead_of, keeps}
 use Rattle.bh_push.proofs.Prompts.{body_prompt}
 use Rattle.bh_push.proofs.Walking.{lines_on}
-use Rattle.bh_push.proofs.Ends.{content_behind}
+use Rattle.bh_push.proofs.Ends.{yields_into, content_behind}
 
 abbrev at_body : Course → At
 at_body c = at_of c.body.phase c.body.form c.body.number

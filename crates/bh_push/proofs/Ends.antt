@@ -8,12 +8,29 @@ use Rattle.bh_spec.specs.Bounds.{Bounds}
 use Rattle.bh_spec.specs.Texts.{Text, mark, bytes_of}
 use Rattle.bh_model.specs.declared.field.Place.TheVariants.{Trailer}
 use Rattle.bh_spec.specs.Residuals.{HasRest, IsResidual, IsStep}
-use Rattle.bh_spec.specs.Items.{Item, ending}
+use Rattle.bh_spec.specs.Messages.{Field}
+use Rattle.bh_spec.specs.Items.{Item, trailer_section, ending}
+use Rattle.bh_spec.specs.Yields.{Yields}
 use Rattle.bh_fields.specs.Sections.{SectionOf}
-use Rattle.bh_fields.specs.Middle.{SectionView, begun_view}
+use Rattle.bh_fields.specs.Middle.{SectionView, begun_view, Rest as section_rest}
 use Rattle.bh_fields.proofs.History.{begun_is_a_section}
-use Rattle.bh_push.specs.Completing.{TrailersRest}
+use Rattle.bh_push.specs.Completing.{TrailersRest, PaddingRest}
 use Rattle.bh_push.specs.Decoders.{Rest, behind_content, in_trailers, in_padding}
+
+-- ---- what is told by another word
+
+pub yields_into : {I : Type 0} (A B : I → Text → Type 0) (gives : I → List Item) (S : I → List Item → Text → Type 0) → ((i : I) (t : Text) → A i t → B i t) → (q : List Item) (t : Text)
+    → Yields A gives S q t → Yields B gives S q t
+yields_into A B gives S to q t y = record {
+  thing = y.thing;
+  text = y.text;
+  rest = y.rest;
+  more = y.more;
+  spelled = to y.thing y.text y.spelled;
+  behind = y.behind;
+  items = y.items;
+  joined = y.joined;
+}
 
 -- ---- nothing, or something
 
@@ -32,37 +49,17 @@ residual_or_nothing R S last byte x f r = record { text = r.text; same = r.same;
 pub content_behind : (L : Bounds) (form : Form) (v : SectionView) (byte : ℕ) (x : List ℕ) (f : List Item → List Item) (S : List Item → Text → Type 0)
     → IsResidual (Rest L (in_trailers form (begun_view form Trailer v))) (byte ∷ x) f S → IsResidual (Rest L (behind_content form)) (byte ∷ x) f S
 content_behind L form v byte x f S r =
+    let gives : List Field → List Item = λ fields. trailer_section fields ∷ [] in
     residual_or_nothing (TrailersRest (SectionOf L form Trailer)) S (ending Trailers 0 ∷ []) byte x f
     (record {
       text = r.text;
       same = r.same;
-      forth = λ q u more y e. r.forth q u more (begun q u y) e;
-      back = λ q t s. section (f q) (r.text ++ t) (r.back q t s);
+      forth = λ q u more y e. r.forth q u more
+          (yields_into (SectionOf L form Trailer) (section_rest L (begun_view form Trailer v)) gives (λ fields. PaddingRest 0)
+          (λ fields t h. (begun_is_a_section L form Trailer v fields t).1 h) q u y) e;
+      back = λ q t s. yields_into (section_rest L (begun_view form Trailer v)) (SectionOf L form Trailer) gives (λ fields. PaddingRest 0)
+          (λ fields u h. (begun_is_a_section L form Trailer v fields u).0 h) (f q) (r.text ++ t) (r.back q t s);
     })
-  where
-    begun : (q : List Item) (u : Text) → TrailersRest (SectionOf L form Trailer) q u → Rest L (in_trailers form (begun_view form Trailer v)) q u
-    begun q u y = record {
-      thing = y.thing;
-      text = y.text;
-      rest = y.rest;
-      more = y.more;
-      spelled = (begun_is_a_section L form Trailer v y.thing y.text).1 y.spelled;
-      behind = y.behind;
-      items = y.items;
-      joined = y.joined;
-    }
-
-    section : (q : List Item) (u : Text) → Rest L (in_trailers form (begun_view form Trailer v)) q u → TrailersRest (SectionOf L form Trailer) q u
-    section q u y = record {
-      thing = y.thing;
-      text = y.text;
-      rest = y.rest;
-      more = y.more;
-      spelled = (begun_is_a_section L form Trailer v y.thing y.text).0 y.spelled;
-      behind = y.behind;
-      items = y.items;
-      joined = y.joined;
-    }
 
 -- ---- padding
 

@@ -1,14 +1,14 @@
 -- What a walk says of a decoder, within the limit of the input.
-use Rattle.std.proofs.Common.{◌≡◌, ◌<◌, ◌≤◌, ◌+◌, ◌-◌, ℕ, Option, Some, None, List, [], ◌∷◌, ◌++◌, length, take, drop, map, refl, sym, ap, subst, ◌∙◌, inl, inr, ◌⊎◌, arith}
+use Rattle.std.proofs.Common.{◌≡◌, ◌<◌, ◌≤◌, ◌+◌, ◌-◌, ℕ, Option, Some, None, List, [], ◌∷◌, ◌++◌, length, take, drop, map, min, refl, sym, ap, subst, ◌∙◌, inl, inr, ◌⊎◌, arith}
 use Rattle.std.proofs.Math.Seq.{take-add}
 use Rattle.bh_spec.specs.declared.Form.{Form}
 use Rattle.bh_spec.specs.declared.Part.{Part}
 use Rattle.bh_spec.specs.declared.Refusal.{Refusal}
 use Rattle.bh_spec.specs.declared.Refusal.TheVariants.{Dead, Limit, TooLong}
-use Rattle.bh_spec.specs.Bounds.{Bounds, no_bounds}
+use Rattle.bh_spec.specs.Bounds.{Bounds, no_bounds, IsWithin}
 use Rattle.bh_spec.specs.Pieces.{SomeOf, CanBecome, IsRefused}
 use Rattle.bh_spec.proofs.Residuals.{same_of}
-use Rattle.bh_spec.proofs.Within.{some_within}
+use Rattle.bh_spec.proofs.Within.{some_within, within_some}
 use Rattle.bh_fields.specs.Middle.{SectionView, Rest as section_rest}
 use Rattle.bh_spec.specs.Items.{Item, interim_response, head, content_byte, trailer_section, ending}
 use Rattle.bh_spec.specs.Runs.{Takes}
@@ -27,7 +27,7 @@ use Rattle.bh_push.specs.Courses.{shown_head, shown_lines, InSection, LinesKept,
 use Rattle.bh_push.specs.Hands.{kind_at, Held, IsInSection, Handed, IsLong, Keeps}
 use Rattle.bh_push.specs.Pushes.{DecoderView, RefusesBehind, Refuses, refused_at, refused_view}
 use Rattle.bh_push.specs.Kinds.{KindBehind}
-use Rattle.bh_push.proofs.Inputs.{Fronted, front_long, front_of_front, dead_longer, limit_longer}
+use Rattle.bh_push.proofs.Inputs.{Fronted, not_some, front_long, front_of_front, dead_longer, limit_longer}
 
 abbrev pub view : Course → ℕ → Option Refusal → DecoderView
 view c taken refusal = record { limits = c.limits; at = place_of c; taken = taken; refusal = refusal }
@@ -41,6 +41,11 @@ pub record Within (v : Course) (taken most : ℕ) (refusal : Option Refusal) (pi
   pub few : taken ≤ most
   pub front : Fronted piece within (most - taken)
   pub none : refusal ≡ None
+
+pub within_at : (v : Course) (taken most : ℕ) (refusal : Option Refusal) (piece within : List ℕ) → v.limits.input ≡ Some most → IsWithin v.limits.input taken
+    → within ≡ take (min (most - taken) (length piece)) piece → ((r : Refusal) → refusal ≡ Some r → ⊥) → Within v taken most refusal piece within
+within_at v taken most refusal piece within input counted front none =
+    record { input = input; few = within_some v.limits.input most taken input counted; front = record { same = front }; none = not_some refusal none }
 
 takes_to : (v : Course) (at : At) (piece within : List ℕ) (room count : ℕ) (yields : List Item) → Fronted piece within room → count ≤ length within
     → Comes v.limits (place_of v) (take count within) yields at → Takes Rest v.limits (place_of v) piece count yields at

@@ -4,7 +4,7 @@ use Rattle.std.proofs.lemmas.List.{length-take, take-append-le}
 use Rattle.bh_spec.specs.declared.Part.{Part}
 use Rattle.bh_spec.specs.declared.Refusal.{Refusal}
 use Rattle.bh_spec.specs.Texts.{Text}
-use Rattle.bh_spec.specs.Pieces.{CanBecome, IsNext, IsDead, IsLimit}
+use Rattle.bh_spec.specs.Pieces.{CanBecome, IsNext, IsRefused, IsDead, IsLimit}
 
 -- the front of a piece, as far as there is room
 pub record Fronted (piece within : List ℕ) (room : ℕ) : Type 0 where
@@ -21,32 +21,29 @@ front_of_front piece within room count f h =
 
 -- ---- what is refused
 
+refused_longer : (R : Text → Type 0) (piece within : List ℕ) (room offset : ℕ) (part : Part) → Fronted piece within room → IsRefused R [] within offset part → IsRefused R [] piece offset part
+refused_longer R piece within room offset part f r =
+    let h : offset < length within = r.inside in
+    record {
+      inside = omega (arith, h, front_long piece within room f);
+      next = subst (λ (x : List ℕ). IsNext R x part) (front_of_front piece within room offset f (omega arith)) r.next;
+      after = λ c. r.after (subst (CanBecome R) (sym (front_of_front piece within room (offset + 1) f (omega arith))) c);
+    }
+
 pub dead_longer : (R S : Text → Type 0) (piece within : List ℕ) (room offset : ℕ) (part : Part) → Fronted piece within room → IsDead R S [] within offset part → IsDead R S [] piece offset part
 dead_longer R S piece within room offset part f d =
     let h : offset < length within = d.refused.inside in
-    let at = front_of_front piece within room offset f (omega arith) in
-    let on = front_of_front piece within room (offset + 1) f (omega arith) in
     record {
-      refused = record {
-        inside = omega (arith, h, front_long piece within room f);
-        next = subst (λ (x : List ℕ). IsNext R x part) at d.refused.next;
-        after = λ c. d.refused.after (subst (CanBecome R) (sym on) c);
-      };
-      anyway = λ c. d.anyway (subst (CanBecome S) (sym on) c);
+      refused = refused_longer R piece within room offset part f d.refused;
+      anyway = λ c. d.anyway (subst (CanBecome S) (sym (front_of_front piece within room (offset + 1) f (omega arith))) c);
     }
 
 pub limit_longer : (R S : Text → Type 0) (piece within : List ℕ) (room offset : ℕ) (part : Part) → Fronted piece within room → IsLimit R S [] within offset part → IsLimit R S [] piece offset part
 limit_longer R S piece within room offset part f d =
     let h : offset < length within = d.refused.inside in
-    let at = front_of_front piece within room offset f (omega arith) in
-    let on = front_of_front piece within room (offset + 1) f (omega arith) in
     record {
-      refused = record {
-        inside = omega (arith, h, front_long piece within room f);
-        next = subst (λ (x : List ℕ). IsNext R x part) at d.refused.next;
-        after = λ c. d.refused.after (subst (CanBecome R) (sym on) c);
-      };
-      anyway = subst (CanBecome S) on d.anyway;
+      refused = refused_longer R piece within room offset part f d.refused;
+      anyway = subst (CanBecome S) (front_of_front piece within room (offset + 1) f (omega arith)) d.anyway;
     }
 
 pub not_some : (o : Option Refusal) → ((r : Refusal) → o ≡ Some r → ⊥) → o ≡ None

@@ -1,5 +1,5 @@
 -- The part of the next byte, in each stage.
-use Rattle.std.proofs.Common.{◌≡◌, ◌≤◌, ◌+◌, ◌<◌, ◌⊎◌, ℕ, Option, Some, None, List, [], ◌∷◌, ◌++◌, refl, sym, subst, append_assoc, inl, inr, arith}
+use Rattle.std.proofs.Common.{◌≡◌, ◌≤◌, ◌+◌, ◌<◌, ◌⊎◌, ℕ, Option, Some, None, List, [], ◌∷◌, refl, sym, subst, inl, inr, arith}
 use Rattle.std.proofs.lemmas.Bool.{cases_lt}
 use Rattle.bh_spec.specs.declared.Form.{Form}
 use Rattle.bh_spec.specs.declared.Omitted.TheVariants.{Nothing}
@@ -7,10 +7,8 @@ use Rattle.bh_spec.specs.declared.Part.{Part}
 use Rattle.bh_spec.specs.declared.Part.TheVariants as parts
 use Rattle.bh_spec.specs.Bounds.{Bounds, IsWithin}
 use Rattle.bh_spec.specs.Pieces.{SomeOf, IsNext}
-use Rattle.bh_spec.specs.Texts.{Text}
-use Rattle.bh_spec.specs.Items.{Item, Head, interim_response, head, trailer_section, ending, of_request}
-use Rattle.bh_spec.specs.Readers.{Follows}
-use Rattle.bh_spec.specs.Yields.{Yields}
+use Rattle.bh_spec.specs.Items.{Head, interim_response, head, trailer_section, ending, of_request}
+use Rattle.bh_spec.proofs.Yields.{next_then}
 use Rattle.bh_model.specs.declared.field.Place.TheVariants.{Header, Trailer}
 use Rattle.bh_fields.specs.Middle.{Rest as section_rest}
 use Rattle.bh_fields.specs.Readers.{IsWanted}
@@ -35,33 +33,6 @@ use Rattle.bh_push.proofs.Responding.{behind_interim}
 use Rattle.bh_push.proofs.Sections.{behind_header, behind_trailers}
 use Rattle.bh_push.proofs.StatusBytes.{status_next}
 
--- what a thing's reader says, and something may follow
-next_then : {I : Type 0} (A : I → Text → Type 0) (gives : I → List Item) (S : I → List Item → Text → Type 0) (part : Part) → Follows A S → IsNext (SomeOf A) [] part
-    → IsNext (SomeOf (Yields A gives S)) [] part
-next_then A gives S part follows n =
-    let i = n.spelled.0 in
-    let t : Text = n.before ++ ((part, n.byte) ∷ n.after) in
-    let f = follows i t n.spelled.1 in
-    record {
-      before = n.before;
-      byte = n.byte;
-      after = n.after ++ f.1;
-      spelled = (
-        gives i ++ f.0,
-        record {
-          thing = i;
-          text = t;
-          rest = f.1;
-          more = f.0;
-          spelled = n.spelled.1;
-          behind = f.2;
-          items = refl;
-          joined = sym (append_assoc n.before ((part, n.byte) ∷ n.after) f.1);
-        },
-      );
-      begins = n.begins;
-    }
-
 -- by the stage
 next_in : (c : Course) (s : Stage) (part : Part) → c.stage ≡ s → IsNext (SomeOf (Rest c.limits (at_by s c))) [] part → IsNext (SomeOf (Rest c.limits (place_of c))) [] part
 next_in c s part e n = subst (λ (x : Stage). IsNext (SomeOf (Rest c.limits (at_by x c))) [] part) (sym e) n
@@ -80,7 +51,7 @@ next_control c form part e o n =
     let v = c.control in
     next_in c (stages.Control form) part e
     (next_of c.limits v.limits (in_control form (read_in v)) part o.course.control
-    (next_then (state_rest v.limits v) (λ control. []) (λ control. AfterStart v.limits form (of_request control)) part (behind_control v.limits form (state_rest v.limits v)) n))
+    (next_then (state_rest v.limits v) (λ control. []) (λ control. AfterStart v.limits form (of_request control)) (behind_control v.limits form (state_rest v.limits v)) [] part n))
 
 decide : (o : Option ℕ) (n : ℕ) → IsWithin o n ⊎ (IsWithin o n → ⊥)
 decide None n = inl tt
@@ -109,15 +80,15 @@ pub next_before_interim : (c : Course) (form : Form) (before status : ℕ) → c
 next_before_interim c form before status e o =
     let few = open_by c (stages.BeforeInterim form before status) e o in
     next_in c (stages.BeforeInterim form before status) (first_part_of form) e
-    (next_then (SectionOf c.limits form Header) (λ i. interim_response status i ∷ []) (λ i. ResponseRest c.limits form (before + 1)) (first_part_of form)
-    (behind_interim c.limits form before (SectionOf c.limits form Header) few) (first_of_header c.limits form))
+    (next_then (SectionOf c.limits form Header) (λ i. interim_response status i ∷ []) (λ i. ResponseRest c.limits form (before + 1))
+    (behind_interim c.limits form before (SectionOf c.limits form Header) few) [] (first_part_of form) (first_of_header c.limits form))
 
 pub next_before_header : (c : Course) (form : Form) → c.stage ≡ stages.BeforeHeader form → IsNext (SomeOf (Rest c.limits (place_of c))) [] (first_part_of form)
 next_before_header c form e =
     let of : Head = head_of c.status c.control.control in
     next_in c (stages.BeforeHeader form) (first_part_of form) e
-    (next_then (SectionOf c.limits form Header) (λ i. head of i ∷ []) (λ i. TailRest c.limits form) (first_part_of form)
-    (behind_header form of c.limits (SectionOf c.limits form Header)) (first_of_header c.limits form))
+    (next_then (SectionOf c.limits form Header) (λ i. head of i ∷ []) (λ i. TailRest c.limits form)
+    (behind_header form of c.limits (SectionOf c.limits form Header)) [] (first_part_of form) (first_of_header c.limits form))
 
 pub next_interim : (c : Course) (form : Form) (before status : ℕ) (part : Part) → c.stage ≡ stages.Interim form before status → IsOpen c → IsNext (IsWanted c.section) [] part
     → IsNext (SomeOf (Rest c.limits (place_of c))) [] part
@@ -127,8 +98,8 @@ next_interim c form before status part e o n =
     let few : IsWithin v.limits.interims (before + 1) = subst (λ (L : Bounds). IsWithin L.interims (before + 1)) (sym o.course.section) s.0 in
     next_in c (stages.Interim form before status) part e
     (next_of c.limits v.limits (in_interim form before status v) part o.course.section
-    (next_then (section_rest v.limits v) (λ i. interim_response status i ∷ []) (λ i. ResponseRest v.limits form (before + 1)) part
-    (behind_interim v.limits form before (section_rest v.limits v) few) n))
+    (next_then (section_rest v.limits v) (λ i. interim_response status i ∷ []) (λ i. ResponseRest v.limits form (before + 1))
+    (behind_interim v.limits form before (section_rest v.limits v) few) [] part n))
 
 pub next_header : (c : Course) (form : Form) (part : Part) → c.stage ≡ stages.Header form → IsOpen c → IsNext (IsWanted c.section) [] part → IsNext (SomeOf (Rest c.limits (place_of c))) [] part
 next_header c form part e o n =
@@ -136,14 +107,14 @@ next_header c form part e o n =
     let of : Head = head_of c.status c.control.control in
     next_in c (stages.Header form) part e
     (next_of c.limits v.limits (in_header form of v) part o.course.section
-    (next_then (section_rest v.limits v) (λ i. head of i ∷ []) (λ i. TailRest v.limits form) part (behind_header form of v.limits (section_rest v.limits v)) n))
+    (next_then (section_rest v.limits v) (λ i. head of i ∷ []) (λ i. TailRest v.limits form) (behind_header form of v.limits (section_rest v.limits v)) [] part n))
 
 pub next_trailers : (c : Course) (form : Form) (part : Part) → c.stage ≡ stages.Trailers form → IsOpen c → IsNext (IsWanted c.section) [] part → IsNext (SomeOf (Rest c.limits (place_of c))) [] part
 next_trailers c form part e o n =
     let v = c.section in
     next_in c (stages.Trailers form) part e
     (next_of c.limits v.limits (in_trailers form v) part o.course.section
-    (next_then (section_rest v.limits v) (λ i. trailer_section i ∷ []) (λ i. PaddingRest 0) part (behind_trailers (section_rest v.limits v)) n))
+    (next_then (section_rest v.limits v) (λ i. trailer_section i ∷ []) (λ i. PaddingRest 0) (behind_trailers (section_rest v.limits v)) [] part n))
 
 pub next_padding : (c : Course) (before : ℕ) → c.stage ≡ stages.Padding before → IsNext (SomeOf (Rest c.limits (place_of c))) [] parts.Padding
 next_padding c before e =
@@ -163,7 +134,7 @@ next_body L phases.Head form number part b e = subst (IsNext (SomeOf (Rest L (at
 next_body L phases.Length form number part b e = subst (IsNext (SomeOf (Rest L (at_of phases.Length form number))) []) (sym e) (next_at L phases.Length form number b tt)
 next_body L (phases.Run missing) form number part b e = subst (IsNext (SomeOf (Rest L (at_of (phases.Run missing) form number))) []) (sym e) (run_next L form missing b.0)
 next_body L phases.Over form number part b e =
-    let n = next_then (SectionOf L form Trailer) (λ i. trailer_section i ∷ []) (λ i. PaddingRest 0) (first_part_of form) (behind_trailers (SectionOf L form Trailer)) (first_of_trailers L form) in
+    let n = next_then (SectionOf L form Trailer) (λ i. trailer_section i ∷ []) (λ i. PaddingRest 0) (behind_trailers (SectionOf L form Trailer)) [] (first_part_of form) (first_of_trailers L form) in
     subst (IsNext (SomeOf (Rest L (at_of phases.Over form number))) []) (sym e)
     (record { before = n.before; byte = n.byte; after = n.after; spelled = (n.spelled.0, inr n.spelled.1); begins = n.begins })
 

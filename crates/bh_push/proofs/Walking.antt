@@ -8,7 +8,8 @@ use Rattle.bh_spec.specs.Pieces.{SomeOf, CanBecome, IsNext, IsRefused, IsDead, I
 use Rattle.bh_spec.specs.Texts.{Text}
 use Rattle.bh_spec.specs.Items.{Item, interim_response, head, content_byte, trailer_section, ending}
 use Rattle.bh_spec.specs.Residuals.{IsResidual, HasSame}
-use Rattle.bh_spec.proofs.Residuals.{residual_here, residual_on, same_of, dead_same, limit_same}
+use Rattle.bh_spec.proofs.Readers.{moves_on}
+use Rattle.bh_spec.proofs.Residuals.{residual_here, same_of, dead_same, limit_same}
 use Rattle.bh_push.proofs.Tails.{none_before}
 use Rattle.bh_push.specs.declared.course.Course.{Course}
 use Rattle.bh_push.specs.declared.course.Stage.{Stage}
@@ -67,12 +68,8 @@ walk_here v piece o alive = record {
 }
 
 -- bytes behind bytes
-comes_on : (L : Bounds) (v w u : At) (x y : List ℕ) (yields : List Item) → Comes L v x [] w → Comes L w y yields u → Comes L v (x ++ y) yields u
-comes_on L v w u x y yields a b = record {
-  within = residual_on (Rest L v) x (λ q. q) (Rest L w) y (λ q. yields ++ q) (Rest L u) a.within b.within;
-  anyway = residual_on (Rest no_bounds v) x (λ q. q) (Rest no_bounds w) y (λ q. yields ++ q) (Rest no_bounds u) a.anyway b.anyway;
-  goes_on = b.goes_on;
-}
+pub comes_on : (L : Bounds) (v w u : At) (x y : List ℕ) (i j : List Item) → Comes L v x i w → Comes L w y j u → Comes L v (x ++ y) (i ++ j) u
+comes_on L v w u x y i j a b = moves_on (Rest L v) (Rest no_bounds v) (Rest L w) (Rest no_bounds w) (Rest L u) (Rest no_bounds u) x y i j a b
 
 pub walk_on : (v w u : Course) (piece rest : List ℕ) (i n : ℕ) (yields : List Item) → rest ≡ drop i piece → Walked v piece i [] w → Taken w rest n yields u → Walked v piece (i + n) yields u
 walk_on v w u piece rest i n yields e a taken =
@@ -80,7 +77,7 @@ walk_on v w u piece rest i n yields e a taken =
     record {
       inside = omega (arith, a.inside, t.inside, ap length e, length-drop i piece);
       comes = subst (λ (x : List ℕ). Comes v.limits (place_of v) x yields (place_of u)) (ap (λ (r : List ℕ). take i piece ++ take n r) e ∙ sym (take-add i n piece))
-          (comes_on v.limits (place_of v) (place_of w) (place_of u) (take i piece) (take n rest) yields a.comes
+          (comes_on v.limits (place_of v) (place_of w) (place_of u) (take i piece) (take n rest) [] yields a.comes
           (subst (λ (L : Bounds). Comes L (place_of w) (take n rest) yields (place_of u)) a.limits t.comes));
       limits = t.limits ∙ a.limits;
       stays = t.stays;
@@ -99,7 +96,7 @@ comes_behind : (v w : Course) (u : At) (piece rest : List ℕ) (i k : ℕ) → r
     → Comes v.limits (place_of v) (take (i + k) piece) [] u
 comes_behind v w u piece rest i k e a m =
     subst (λ (x : List ℕ). Comes v.limits (place_of v) x [] u) (ap (λ (r : List ℕ). take i piece ++ take k r) e ∙ sym (take-add i k piece))
-    (comes_on v.limits (place_of v) (place_of w) u (take i piece) (take k rest) [] a.comes (subst (λ (L : Bounds). Comes L (place_of w) (take k rest) [] u) a.limits m))
+    (comes_on v.limits (place_of v) (place_of w) u (take i piece) (take k rest) [] [] a.comes (subst (λ (L : Bounds). Comes L (place_of w) (take k rest) [] u) a.limits m))
 
 -- where the byte stood
 pub stood_on : (v w u : Course) (piece rest : List ℕ) (i k : ℕ) → rest ≡ drop i piece → Walked v piece i [] w → Halts w rest k u → Stood v piece (i + k) u

@@ -1,28 +1,18 @@
 -- How many field lines a message has that was read within limits, and how much content.
-use Rattle.std.proofs.Common.{◌≤◌, ◌<◌, ◌^◌, ℕ, List, [], ◌∷◌, length, All, subst, arith}
+use Rattle.std.proofs.Common.{◌≤◌, ◌^◌, ℕ, List, [], ◌∷◌, length, All, subst, arith}
 use Rattle.std.proofs.lemmas.List.{length-append}
 use Rattle.std.proofs.lemmas.List.Sums.{sum_by-le}
-use Rattle.bh_spec.specs.declared.Width.{Width}
-use Rattle.bh_spec.specs.declared.Width.TheVariants.{One, Two, Four, Eight}
 use Rattle.bh_spec.specs.declared.Omitted.{Omitted}
 use Rattle.bh_spec.specs.Bounds.{Bounds, IsWithin}
-use Rattle.bh_spec.specs.Integers.{int, vi, least_width}
+use Rattle.bh_spec.specs.Integers.{int}
 use Rattle.bh_spec.specs.Messages.{Field, Interim, Start, request, response, Message}
 use Rattle.bh_spec.specs.Answers.{whole, IsAnswer}
 use Rattle.bh_spec.specs.Canonical.{string, line, lines, Fits, FieldsFit, StartFits}
 use Rattle.bh_spec.specs.Reports.{interim_lines, line_count}
 use Rattle.bh_spec.proofs.Fitting.{fits_where_spelled}
 use Rattle.bh_spec.proofs.Contents.{content_long}
+use Rattle.bh_spec.proofs.Widths.{int_some}
 use Rattle.bh_model.specs.Ranges.{bounds_of, AreInRange, AreLimits}
-
-int_some : (n : ℕ) → 0 < length (int n)
-int_some n = by_width (least_width n)
-  where
-    by_width : (w : Width) → 0 < length (vi n w)
-    by_width One = omega arith
-    by_width Two = omega arith
-    by_width Four = omega arith
-    by_width Eight = omega arith
 
 count_lines : (fields : List Field) → length fields ≤ length (lines fields)
 count_lines [] = omega arith

@@ -1,12 +1,13 @@
 -- What is known of the states of the decoder of a call.
-use Rattle.std.proofs.Common.{◌≡◌, ◌+◌, ◌-◌, ℕ, Option, Some, None, List, [], ◌∷◌, ◌++◌, refl, sym, ◌∙◌, ap, subst, arith, append_assoc, length-append}
+use Rattle.std.proofs.Common.{◌≡◌, ◌+◌, ◌-◌, ℕ, Option, Some, None, List, [], ◌∷◌, ◌++◌, refl, sym, ◌∙◌, ap, subst, arith, length-append}
 use Rattle.bh_spec.specs.declared.Kind.{Kind}
 use Rattle.bh_spec.specs.Bounds.{Bounds, no_bounds}
-use Rattle.bh_spec.specs.Texts.{Text, bytes_of}
+use Rattle.bh_spec.specs.Texts.{bytes_of}
 use Rattle.bh_spec.specs.Residuals.{IsResidual}
 use Rattle.bh_spec.specs.Items.{Item, interim_response, head, content_byte, trailer_section, ending}
 use Rattle.bh_spec.specs.Readers.{Moves}
-use Rattle.bh_spec.proofs.Residuals.{residual_here, residual_on}
+use Rattle.bh_spec.proofs.Residuals.{residual_here}
+use Rattle.bh_spec.proofs.Readers.{moves_on}
 use Rattle.bh_push.specs.Decoders.{Rest as rest_at}
 use Rattle.bh_push.specs.Hands.{kind_of_head}
 use Rattle.bh_stream.specs.Decoding.{IsAlive, Leads, DecoderLaws}
@@ -33,20 +34,6 @@ kind-append ((ending omitted padding) ∷ i) j kind = kind-append i j kind
 pub room_at : (o : Option ℕ) (limit taken : ℕ) → o ≡ Some limit → within_limit o taken ≡ limit - taken
 room_at (Some n) limit taken e = let same : n ≡ limit = cc in ap (λ (k : ℕ). k - taken) same
 room_at None limit taken e = absurd (cc)
-
--- residuals, one behind the other
-pub behind_items : (R S T : List Item → Text → Type 0) (x y : List ℕ) (i j : List Item) → IsResidual R x (λ q. i ++ q) S
-    → IsResidual S y (λ q. j ++ q) T → IsResidual R (x ++ y) (λ q. (i ++ j) ++ q) T
-behind_items R S T x y i j a b =
-    let both = residual_on R x (λ (q : List Item). i ++ q) S y (λ (q : List Item). j ++ q) T a b in
-    record {
-      text = both.text;
-      same = both.same;
-      forth = λ p t more h e.
-          let f = both.forth p t more h e in
-          record { thing = f.thing; rest = f.rest; spelled = f.spelled; same = f.same ∙ sym (append_assoc i j f.thing); joined = f.joined };
-      back = λ q t h. subst (λ (p : List Item). R p (both.text ++ t)) (sym (append_assoc i j q)) (both.back q t h);
-    }
 
 leads : (v w : Counted) (x : List ℕ) (i : List Item) → Moved v x i w → Leads rest room v x i w
 leads v w x i m =
@@ -101,12 +88,8 @@ goes_on v w u x y i j a b =
         limit_is = sym (ap (λ (K : Bounds). K.input) a.limits) ∙ b.input.limit_is;
         few = omega (arith, b.input.few, a.taken, length-append x y);
       };
-      comes = record {
-        within = behind_items (rest v) (rest_at L w.held.decoder.at) (rest_at L u.held.decoder.at) x y i j a.comes.within later.within;
-        anyway = behind_items (rest_at no_bounds v.held.decoder.at) (rest_at no_bounds w.held.decoder.at) (rest_at no_bounds
-            u.held.decoder.at) x y i j a.comes.anyway later.anyway;
-        goes_on = later.goes_on;
-      };
+      comes = moves_on (rest v) (rest_at no_bounds v.held.decoder.at) (rest_at L w.held.decoder.at) (rest_at no_bounds w.held.decoder.at)
+          (rest_at L u.held.decoder.at) (rest_at no_bounds u.held.decoder.at) x y i j a.comes later;
       limits = b.limits ∙ a.limits;
       taken = omega (arith, a.taken, b.taken, length-append x y);
       refusal = b.refusal;

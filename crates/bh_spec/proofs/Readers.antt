@@ -10,7 +10,7 @@ use Rattle.bh_spec.specs.Items.{Item}
 use Rattle.bh_spec.specs.Readings.{Leads}
 use Rattle.bh_spec.specs.Yields.{Yields, NoneEndsBefore}
 use Rattle.bh_spec.specs.Readers.{Follows, Moves}
-use Rattle.bh_spec.proofs.Residuals.{residual_on, residual_bytes, same_of, once_behind}
+use Rattle.bh_spec.proofs.Residuals.{residual_on, behind_items, residual_bytes, same_of, once_behind}
 use Rattle.bh_spec.proofs.Yields.{residual_yields, residual_over, IsOver, on_ends, end_ends, text_once, begun_then, dead_then, limit_then}
 
 -- What is known of the things that a reader reads: within the limits by A, without by C.
@@ -20,6 +20,14 @@ pub record IsReader {I : Type 0} (A C : I → Text → Type 0) : Type 0 where
   pub one : (i j : I) (bytes : List ℕ) → IsText (A i) bytes → IsText (A j) bytes → i ≡ j
   pub free_one : (i j : I) (bytes : List ℕ) → IsText (C i) bytes → IsText (C j) bytes → i ≡ j
   pub weaker : (i : I) (t : Text) → A i t → C i t
+
+-- one way behind another
+pub moves_on : (R F S G T H : List Item → Text → Type 0) (x y : List ℕ) (i j : List Item) → Moves R F S G x i → Moves S G T H y j → Moves R F T H (x ++ y) (i ++ j)
+moves_on R F S G T H x y i j a b = record {
+  within = behind_items R S T x y i j a.within b.within;
+  anyway = behind_items F G H x y i j a.anyway b.anyway;
+  goes_on = b.goes_on;
+}
 
 -- ---- the whole piece was taken, and the thing goes on
 

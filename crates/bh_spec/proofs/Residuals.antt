@@ -53,6 +53,20 @@ residual_on {A} {B} {C} R x f S y g T r s = record {
   back = λ c t h. subst (R (f (g c))) (sym (append_assoc r.text s.text t)) (r.back (g c) (s.text ++ t) (s.back c t h));
 }
 
+-- where each puts a list in front, both lists are in front
+pub behind_items : {A : Type 0} (R S T : List A → Text → Type 0) (x y : List ℕ) (i j : List A) → IsResidual R x (λ q. i ++ q) S
+    → IsResidual S y (λ q. j ++ q) T → IsResidual R (x ++ y) (λ q. (i ++ j) ++ q) T
+behind_items {A} R S T x y i j a b =
+    let both = residual_on R x (λ (q : List A). i ++ q) S y (λ (q : List A). j ++ q) T a b in
+    record {
+      text = both.text;
+      same = both.same;
+      forth = λ p t more h e.
+          let f = both.forth p t more h e in
+          record { thing = f.thing; rest = f.rest; spelled = f.spelled; same = f.same ∙ sym (append_assoc i j f.thing); joined = f.joined };
+      back = λ q t h. subst (λ (p : List A). R p (both.text ++ t)) (sym (append_assoc i j q)) (both.back q t h);
+    }
+
 -- the same residual, where the bytes are given by an equation
 pub residual_bytes : {A B : Type 0} (R : A → Text → Type 0) (x y : List ℕ) (f : B → A) (S : B → Text → Type 0) → x ≡ y → IsResidual R x f S → IsResidual R y f S
 residual_bytes R x y f S e h = subst (λ (z : List ℕ). IsResidual R z f S) e h

@@ -3,7 +3,7 @@ use Rattle.std.proofs.Common.{◌≡◌, ◌<◌, ◌≤◌, arith, ℕ, length,
 use Rattle.std.proofs.lemmas.Bool.{cases_lt, lt-ltb, le-ltb}
 use Rattle.bh_spec.specs.declared.Width.{Width}
 use Rattle.bh_spec.specs.declared.Width.TheVariants.{One, Two, Four, Eight}
-use Rattle.bh_spec.specs.Integers.{vi, limit_of, byte_count, least_width}
+use Rattle.bh_spec.specs.Integers.{int, vi, limit_of, byte_count, least_width}
 use Rattle.bh_spec.specs.Canonical.{greatest}
 
 least_one : (n : ℕ) → n < 64 → least_width n ≡ One
@@ -70,6 +70,10 @@ count_1 One = omega arith
 count_1 Two = omega arith
 count_1 Four = omega arith
 count_1 Eight = omega arith
+
+-- an integer has a byte at least
+pub int_some : (n : ℕ) → 0 < length (int n)
+int_some n = omega (arith, length-vi n (least_width n), count_1 (least_width n))
 
 pub count_8 : (w : Width) → byte_count w ≤ 8
 count_8 One = omega arith

@@ -1,9 +1,10 @@
 -- What is written is a text of the grammar.
-use Rattle.std.proofs.Common.{◌≡◌, ◌<◌, ◌≤◌, arith, ℕ, zero, suc, List, [], ◌∷◌, ◌++◌, length, take, drop, map, All, flat_map, refl, sym, ap, ap₂, subst, ◌∙◌, append-nil}
+use Rattle.std.proofs.Common.{◌≡◌, ◌<◌, ◌≤◌, ◌-◌, arith, ℕ, zero, suc, List, [], ◌∷◌, ◌++◌, length, take, drop, map, All, flat_map, refl, sym, ap, ap₂, subst, ◌∙◌, append-nil}
 use Rattle.std.specs.List.{concat}
 use Rattle.std.specs.Char.{to_ascii_lowercase}
-use Rattle.std.proofs.lemmas.List.{length-map, take-append-drop, length-take, length-drop}
+use Rattle.std.proofs.lemmas.List.{length-map, take-append-drop, length-take, length-drop, length-append, take_all, drop_all}
 use Rattle.std.proofs.lemmas.List.Elements.{All-head, All-tail, All-nil, All-cons, All-weaker, All-append, All-same}
+use Rattle.std.proofs.Math.Seq.{take-append_seam, drop-append_seam}
 use Rattle.bh_spec.specs.declared.Part.{Part}
 use Rattle.bh_spec.specs.declared.Part.TheVariants as parts
 use Rattle.bh_spec.specs.declared.Form.{Form}
@@ -107,6 +108,37 @@ cut_whole zero (b ∷ xs) h = absurd (omega arith)
 cut_whole (suc k) [] h = refl
 cut_whole (suc k) (b ∷ xs) h =
     ap (λ (y : List ℕ). take 8192 (b ∷ xs) ++ y) (cut_whole k (drop 8192 (b ∷ xs)) (omega (arith, length-drop 8192 (b ∷ xs)))) ∙ take-append-drop 8192 (b ∷ xs)
+
+-- more turns than bytes make no difference
+turns : (k j size : ℕ) (xs : List ℕ) → 0 < size → length xs ≤ k → length xs ≤ j → cut_within k size xs ≡ cut_within j size xs
+turns zero zero size xs s h g = refl
+turns zero (suc j) size [] s h g = refl
+turns zero (suc j) size (x ∷ xs) s h g = absurd (omega arith)
+turns (suc k) zero size [] s h g = refl
+turns (suc k) zero size (x ∷ xs) s h g = absurd (omega arith)
+turns (suc k) (suc j) size [] s h g = refl
+turns (suc k) (suc j) size (x ∷ xs) s h g =
+    let rest : length (drop size (x ∷ xs)) ≡ length (x ∷ xs) - size = length-drop size (x ∷ xs) in
+    ap (λ (ys : List (List ℕ)). take size (x ∷ xs) ∷ ys) (turns k j size (drop size (x ∷ xs)) s (omega arith) (omega arith))
+
+-- bytes are their first piece and the pieces of the rest
+pub cut_once : (size : ℕ) (xs : List ℕ) → 0 < size → 0 < length xs → cut size xs ≡ take size xs ∷ cut size (drop size xs)
+cut_once size [] s h = absurd (omega arith)
+cut_once size (x ∷ xs) s h =
+    let rest : length (drop size (x ∷ xs)) ≡ length (x ∷ xs) - size = length-drop size (x ∷ xs) in
+    ap (λ (ys : List (List ℕ)). take size (x ∷ xs) ∷ ys) (turns (length xs) (length (drop size (x ∷ xs))) size (drop size (x ∷ xs)) s (omega arith) (omega arith))
+
+-- a whole piece in front
+pub cut_first : (size : ℕ) (full back : List ℕ) → 0 < size → length full ≡ size → cut size (full ++ back) ≡ full ∷ cut size back
+cut_first size full back s e =
+    cut_once size (full ++ back) s (omega (arith, e, length-append full back))
+    ∙ ap₂ (λ (a b : List ℕ). a ∷ cut size b)
+    (ap (λ (k : ℕ). take k (full ++ back)) (sym e) ∙ take-append_seam full back)
+    (ap (λ (k : ℕ). drop k (full ++ back)) (sym e) ∙ drop-append_seam full back)
+
+-- bytes that aren't more than one piece
+pub cut_few : (size : ℕ) (xs : List ℕ) → 0 < length xs → length xs ≤ size → cut size xs ≡ xs ∷ []
+cut_few size xs some few = cut_once size xs (omega arith) some ∙ ap₂ (λ (a b : List ℕ). a ∷ cut size b) (take_all size xs few) (drop_all size xs few)
 
 -- what a form asks of content: its length stands in one integer, or it is cut into chunks
 abbrev pub BodyFits : Form → List ℕ → Type 0

@@ -1,25 +1,18 @@
 -- Binary messages as a format: one reading; what a call says of messages by what it says of spellings; and texts of messages that begin
 -- with the same bytes have the same content there.
-use Rattle.std.proofs.Common.{◌≡◌, ◌≤◌, ℕ, List, ◌++◌, length, take, refl, sym, ◌∙◌, ap, subst, arith}
-use Rattle.std.proofs.lemmas.List.{take_all}
-use Rattle.bh_spec.specs.declared.Omitted.{Omitted}
+use Rattle.std.proofs.Common.{◌≡◌, ◌≤◌, ℕ, List, ◌++◌, refl}
 use Rattle.bh_spec.specs.Bounds.{Bounds}
 use Rattle.bh_spec.specs.Messages.{Message}
-use Rattle.bh_spec.specs.Texts.{Text, bytes_of, content_in}
-use Rattle.bh_spec.specs.Pieces.{CanBecome, SomeOf}
+use Rattle.bh_spec.specs.Texts.{Text, bytes_of}
+use Rattle.bh_spec.specs.Pieces.{SomeOf}
 use Rattle.bh_spec.specs.Viable.{IsMessageText}
-use Rattle.bh_spec.specs.Items.{Item, items, MessageOf}
+use Rattle.bh_spec.specs.Items.{items}
 use Rattle.bh_spec.proofs.Whole.{one_next, one_reading}
-use Rattle.bh_spec.proofs.Marks.{bytes_of-append}
 use Rattle.bh_stream.specs.Outputs.{Output, written, shown_in, weighed}
-use Rattle.bh_base.specs.Steps.{Step, taken}
+use Rattle.bh_base.specs.Steps.{Step}
 use Rattle.bh_stream.specs.Logs.{HasBody, KeepsUp}
-use Rattle.bh_stream.specs.Jobs.{Owing}
 use Rattle.bh_stream.specs.Formats.{GivesAlways}
-use Rattle.bh_stream.specs.Messages.{Spelled, IsSpelled, items_in, IsTextOf, ShowsMessages, GivesFronts}
-use Rattle.bh_stream.proofs.Outputs.{weighed_bytes, weighed_content, weighed_front}
-use Rattle.bh_stream.proofs.Moving.{bytes-length}
-use Rattle.bh_stream.proofs.LogLaws.{take_front}
+use Rattle.bh_stream.specs.Messages.{Spelled, IsSpelled, items_in, IsTextOf, GivesFronts}
 use Rattle.bh_stream.proofs.SameMarks.{same_marks, shows_text}
 use Rattle.bh_stream.proofs.Formats.{gives_for, keeps_same}
 

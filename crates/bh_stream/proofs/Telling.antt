@@ -6,7 +6,7 @@ use Rattle.std.proofs.lemmas.List.{take_all}
 use Rattle.bh_spec.specs.Bounds.{IsWithin}
 use Rattle.bh_spec.specs.Texts.{Text}
 use Rattle.bh_spec.specs.Pieces.{CanBecome}
-use Rattle.bh_base.specs.Steps.{Step, Read, Write, BadRead, BadWrite, Rose, Counts, taken, given, met, meets_end, is_empty, Asks, is_bad_read, is_bad_write, ReadFacts, WriteFacts, ReadLeaves, WriteLeaves, ChainFacts, Entry, Took, Gave, entries, Logs, Meanings}
+use Rattle.bh_base.specs.Steps.{Step, Read, Write, BadRead, BadWrite, Rose, Counts, taken, given, met, meets_end, is_empty, Asks, is_bad_read, is_bad_write, ReadFacts, WriteFacts, ReadLeaves, WriteLeaves, ChainFacts, Entry, Took, Gave, entries, Logs, Meanings, meanings}
 use Rattle.bh_base.specs.StepLaws.{quiet_is, read_stops, write_stops, stayed, rose}
 use Rattle.bh_base.proofs.Chains.{chain_facts}
 use Rattle.bh_stream.specs.Logs.{Begins, AtEvery, GivesFront, IsClose}
@@ -164,7 +164,7 @@ module _ {M A R : Type 0} (spelled : M → Text → Type 0) (output : M → List
     (read_leaves : (s t : S) (x : Step) → read s x t → ReadLeaves sent write_faults log s x t)
     (write_leaves : (s t : S) (x : Step) → write s x t → WriteLeaves left read_faults ended log s x t) where
   abbrev means : Meanings S
-  means = record { left = left; sent = sent; read_faults = read_faults; write_faults = write_faults }
+  means = meanings left sent read_faults write_faults
 
   module _ (s t : S) (r : End A R) (steps : List Step) (call : PortCall limit (GivesAlways spelled output limit) Ends read write steps s r t) where
     pub facts : ChainFacts left sent read_faults write_faults ended log s steps t

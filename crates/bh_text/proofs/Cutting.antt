@@ -1,27 +1,10 @@
 -- Content cut in lines of 32 bytes, in two parts.
-use Rattle.std.proofs.Common.{◌≡◌, ◌≤◌, ◌<◌, ◌+◌, ◌-◌, ◌*◌, ◌/◌, ℕ, zero, suc, List, [], ◌∷◌, ◌++◌, length, take, drop, map, refl, sym, ap, ap₂, ◌∙◌, append_assoc, arith}
+use Rattle.std.proofs.Common.{◌≡◌, ◌≤◌, ◌<◌, ◌+◌, ◌*◌, ◌/◌, ℕ, zero, suc, List, [], ◌∷◌, ◌++◌, length, take, drop, map, refl, sym, ap, ap₂, ◌∙◌, append_assoc, arith}
 use Rattle.std.proofs.lemmas.List.{length-drop, length-append, take_all, drop_all, take-append-le, drop-append-le, take-append-drop, map-append}
-use Rattle.bh_spec.specs.Canonical.{cut, cut_within}
+use Rattle.bh_spec.specs.Canonical.{cut}
 use Rattle.bh_spec.specs.Listing.{content, content_lines}
+use Rattle.bh_spec.proofs.Written.{cut_once, cut_few}
 use Rattle.bh_text.specs.Showing.{filled, unfilled}
-
--- more turns than bytes make no difference
-turns : (k j size : ℕ) (xs : List ℕ) → 0 < size → length xs ≤ k → length xs ≤ j → cut_within k size xs ≡ cut_within j size xs
-turns zero zero size xs s h g = refl
-turns zero (suc j) size [] s h g = refl
-turns zero (suc j) size (x ∷ xs) s h g = absurd (omega arith)
-turns (suc k) zero size [] s h g = refl
-turns (suc k) zero size (x ∷ xs) s h g = absurd (omega arith)
-turns (suc k) (suc j) size [] s h g = refl
-turns (suc k) (suc j) size (x ∷ xs) s h g =
-    let rest : length (drop size (x ∷ xs)) ≡ length (x ∷ xs) - size = length-drop size (x ∷ xs) in
-    ap (λ (ys : List (List ℕ)). take size (x ∷ xs) ∷ ys) (turns k j size (drop size (x ∷ xs)) s (omega arith) (omega arith))
-
-one_more : (xs : List ℕ) → 0 < length xs → cut 32 xs ≡ take 32 xs ∷ cut 32 (drop 32 xs)
-one_more [] h = absurd (omega arith)
-one_more (x ∷ xs) h =
-    let rest : length (drop 32 (x ∷ xs)) ≡ length (x ∷ xs) - 32 = length-drop 32 (x ∷ xs) in
-    ap (λ (ys : List (List ℕ)). take 32 (x ∷ xs) ∷ ys) (turns (length xs) (length (drop 32 (x ∷ xs))) 32 (drop 32 (x ∷ xs)) (omega arith) (omega arith) (omega arith))
 
 nothing : (xs : List ℕ) → length xs ≡ 0 → xs ≡ []
 nothing [] e = refl
@@ -29,7 +12,7 @@ nothing (x ∷ xs) e = absurd (omega arith)
 
 -- one line
 pub one_line : (xs : List ℕ) → 0 < length xs → length xs ≤ 32 → content_lines xs ≡ content xs ∷ []
-one_line xs some few = ap (map content) (one_more xs some ∙ ap₂ (λ (a : List ℕ) (b : List (List ℕ)). a ∷ b) (take_all 32 xs few) (ap (cut 32) (drop_all 32 xs few)))
+one_line xs some few = ap (map content) (cut_few 32 xs some few)
 
 -- whole lines, and what follows them
 whole_first : (k : ℕ) (a b : List ℕ) → length a ≡ k * 32 → cut 32 (a ++ b) ≡ cut 32 a ++ cut 32 b
@@ -38,9 +21,9 @@ whole_first (suc k) a b e =
     let size : length (drop 32 a) ≡ k * 32 = omega (arith, e, length-drop 32 a) in
     let long : 32 ≤ length a = omega (arith, e) in
     let all = length-append a b in
-    one_more (a ++ b) (omega (arith, all, long))
+    cut_once 32 (a ++ b) (omega arith) (omega (arith, all, long))
     ∙ ap₂ (λ (x : List ℕ) (y : List (List ℕ)). x ∷ y) (take-append-le 32 a b long) (ap (cut 32) (drop-append-le 32 a b long) ∙ whole_first k (drop 32 a) b size)
-    ∙ ap (λ (y : List (List ℕ)). y ++ cut 32 b) (sym (one_more a (omega (arith, long))))
+    ∙ ap (λ (y : List (List ℕ)). y ++ cut 32 b) (sym (cut_once 32 a (omega arith) (omega (arith, long))))
 
 pub lines_on : (k : ℕ) (a b : List ℕ) → length a ≡ k * 32 → content_lines (a ++ b) ≡ content_lines a ++ content_lines b
 lines_on k a b e = ap (map content) (whole_first k a b e) ∙ map-append content (cut 32 a) (cut 32 b)

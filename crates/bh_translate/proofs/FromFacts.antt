@@ -15,7 +15,7 @@ use Rattle.bh_spec.specs.Viable.{IsMessageText}
 use Rattle.bh_spec.specs.Canonical.{canon}
 use Rattle.bh_spec.specs.Reports.{summary}
 use Rattle.bh_spec.specs.Items.{Item, ending}
-use Rattle.bh_base.specs.Steps.{Step, Entry, Meanings, taken, given, met, IsQuiet, ReadFacts, WriteFacts, ReadLeaves, WriteLeaves}
+use Rattle.bh_base.specs.Steps.{Step, Entry, taken, given, met, IsQuiet, ReadFacts, WriteFacts, ReadLeaves, WriteLeaves, meanings}
 use Rattle.bh_model.specs.Ranges.{AreLimits}
 use Rattle.bh_stream.specs.Outputs.{written}
 use Rattle.bh_stream.specs.Logs.{HasBody, IsClose, GivesFront, ReadsTo, AtEvery, KeepsUp}
@@ -184,7 +184,7 @@ module _ (L : Bounds) (limits : AreLimits L) (scheme : Scheme1) (to_head : Bool)
       (read_leaves : (s t : S) (x : Step) → read_step s x t → ReadLeaves sent write_faults log s x t)
       (write_leaves : (s t : S) (x : Step) → write_step s x t → WriteLeaves left read_faults ended log s x t) where
     pub from_facts : (s t : S) (r : End Summary H1Why) → Streams rest room Moved Refuses tells misses true 8191 read_step write_step v owed s r t
-        → FromFacts L scheme to_head read_step write_step (record { left = left; sent = sent; read_faults = read_faults; write_faults = write_faults }) log s r t
+        → FromFacts L scheme to_head read_step write_step (meanings left sent read_faults write_faults) log s r t
     from_facts s t r h =
         let gives = gives_for (IsTextFrom L scheme to_head) canon spelled some_text h.steps (gives_always knows http1_reading_laws h) in
         let keeps = keeps_same (IsSomeMarked L to_head) (SomeOf (IsHttp1Text L scheme to_head)) any_text marked_text (HasBody (IsMessageText L)) 16383 8191 h.steps (keeps_up knows http1_reading_laws (HasBody (IsMessageText L)) shows h) in

@@ -8,7 +8,7 @@ use Rattle.bh_spec.specs.Texts.{Text, bytes_of}
 use Rattle.bh_spec.specs.Viable.{IsMessageText}
 use Rattle.bh_spec.specs.Canonical.{canon}
 use Rattle.bh_spec.specs.Items.{Item}
-use Rattle.bh_base.specs.Steps.{Step, Entry, ReadFacts, WriteFacts, ReadLeaves, WriteLeaves}
+use Rattle.bh_base.specs.Steps.{Step, Entry, ReadFacts, WriteFacts, ReadLeaves, WriteLeaves, meanings}
 use Rattle.bh_model.specs.Ranges.{AreLimits}
 use Rattle.bh_stream.specs.Jobs.{Fits}
 use Rattle.bh_stream.specs.Outputs.{written}
@@ -67,7 +67,7 @@ module _ (L : Bounds) (limits : AreLimits L) (scheme : Scheme1) (to_head : Bool)
         (read_leaves : (s t : S) (x : Step) → read s x t → ReadLeaves sent write_faults log s x t)
         (write_leaves : (s t : S) (x : Step) → write s x t → WriteLeaves left read_faults ended log s x t) where
       pub from_at : (w : Writing) → w ≡ before_all → (s t : S) (r : End Summary H1Why) → Streams rest room Moved Refuses tells misses true 8191 read write v (owed w) s r t
-          → FromFacts L scheme to_head read write (record { left = left; sent = sent; read_faults = read_faults; write_faults = write_faults }) log s r t
+          → FromFacts L scheme to_head read write (meanings left sent read_faults write_faults) log s r t
       from_at w at s t r h =
           from_facts L limits scheme to_head v (message_owed false) knows (judges_as_from L scheme to_head v limits start) shows read_law ended_law write_law read_leaves write_leaves s t r
           (subst (λ (x : Writing). Streams rest room Moved Refuses tells misses true 8191 read write v (owed x) s r t) at h)

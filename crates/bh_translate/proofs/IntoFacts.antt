@@ -6,7 +6,7 @@ use Rattle.bh_spec.specs.declared.Summary.{Summary}
 use Rattle.bh_spec.specs.Bounds.{Bounds, no_bounds}
 use Rattle.bh_spec.specs.Reports.{summary}
 use Rattle.bh_spec.specs.Viable.{IsMessageText}
-use Rattle.bh_base.specs.Steps.{Step, Entry, Meanings, taken, given, met, ReadFacts, WriteFacts, ReadLeaves, WriteLeaves}
+use Rattle.bh_base.specs.Steps.{Step, Entry, taken, given, met, ReadFacts, WriteFacts, ReadLeaves, WriteLeaves, meanings}
 use Rattle.bh_model.specs.Ranges.{AreLimits}
 use Rattle.bh_stream.specs.Logs.{HasBody, GivesFront}
 use Rattle.bh_stream.specs.Messages.{IsTextOf}
@@ -95,7 +95,7 @@ module _ (L : Bounds) (limits : AreLimits L) (to_head : Bool) (v : JudgedView) (
     (read_leaves : (s t : S) (x : Step) → read s x t → ReadLeaves sent write_faults log s x t)
     (write_leaves : (s t : S) (x : Step) → write s x t → WriteLeaves left read_faults ended log s x t) where
   pub into_facts : (s t : S) (r : End Summary IntoWhy) → Streams rest room Moved IsRefused Tells misses true 8191 read write v (owed to_head at_start) s r t
-      → IntoFacts L to_head read write (record { left = left; sent = sent; read_faults = read_faults; write_faults = write_faults }) log s r t
+      → IntoFacts L to_head read write (meanings left sent read_faults write_faults) log s r t
   into_facts s t r h =
       let knows = knows_clean L limits to_head v start in
       let shown : List ℕ → ℕ → Type 0 = HasBody (IsSomeMarked no_bounds to_head) in
@@ -111,7 +111,7 @@ module _ (L : Bounds) (limits : AreLimits L) (to_head : Bool) (v : JudgedView) (
   -- the writer at the start owes the text
   pub into_at : (w : Writing) → writing.IsAtStart L to_head w → (s t : S) (r : End Summary IntoWhy)
       → Streams rest room Moved IsRefused Tells misses true 8191 read write v (owes w) s r t
-      → IntoFacts L to_head read write (record { left = left; sent = sent; read_faults = read_faults; write_faults = write_faults }) log s r t
+      → IntoFacts L to_head read write (meanings left sent read_faults write_faults) log s r t
   into_at w at s t r h = into_facts s t r (subst (λ (x : Writing). Streams rest room Moved IsRefused Tells misses true 8191 read write v (owes x) s r t) at.4 h)
 
 -- ---- the end of the translator

@@ -1,6 +1,6 @@
 //! The translator from HTTP/1.1.
 ghost use Rattle.std.specs.Prelude.{◌≡◌, ◌<◌, ◌≤◌, IfOk, length};
-ghost use Rattle.bh_base.specs.Steps.{Meanings, Rose};
+ghost use Rattle.bh_base.specs.Steps.{Rose, meanings};
 ghost use Rattle.bh_model.specs.Ranges.{AreLimits};
 ghost use Rattle.bh_stream.specs.Telling.{IsLogged};
 ghost use Rattle.bh_canonical.specs.Writers.{before_all};
@@ -58,13 +58,8 @@ fn translate<P: Port>(
     requires writer { writer.old ≡ before_all }
     requires limits { AreLimits limits.now }
     requires size { (0 < length buffer.old) × (length buffer.old ≤ 8192) }
-    ensures { let means : Meanings P = record {
-      left = P.left;
-      sent = P.sent;
-      read_faults = P.read_faults;
-      write_faults = P.write_faults;
-    } in
-        FromFacts limits.now scheme to_head P.read_step P.write_step means P.log port.old result port.new }
+    ensures { FromFacts limits.now scheme to_head P.read_step P.write_step
+        (meanings P.left P.sent P.read_faults P.write_faults) P.log port.old result port.new }
 {
     let _ = scheme;
     let _ = to_head;
@@ -86,20 +81,10 @@ pub fn from_http1<P: Port>(
     // What the port gave and got, by the bytes of its calls, by what it tells of them, and by its log.
     ensures call { FromSo result (port.new ≡ port.old)
         (λ r. FromCall limits.now scheme to_head P.read_step P.write_step port.old r port.new) }
-    ensures told { let means : Meanings P = record {
-      left = P.left;
-      sent = P.sent;
-      read_faults = P.read_faults;
-      write_faults = P.write_faults;
-    } in
-        FromSo result (port.new ≡ port.old) (λ r. FromTold limits.now scheme to_head means port.old r port.new) }
-    ensures complete { let means : Meanings P = record {
-      left = P.left;
-      sent = P.sent;
-      read_faults = P.read_faults;
-      write_faults = P.write_faults;
-    } in
-        FromSo result (port.new ≡ port.old) (λ r. FromCompletes limits.now scheme to_head means port.old r port.new) }
+    ensures told { FromSo result (port.new ≡ port.old)
+        (λ r. FromTold limits.now scheme to_head (meanings P.left P.sent P.read_faults P.write_faults) port.old r port.new) }
+    ensures complete { FromSo result (port.new ≡ port.old)
+        (λ r. FromCompletes limits.now scheme to_head (meanings P.left P.sent P.read_faults P.write_faults) port.old r port.new) }
     ensures log { FromSo result (port.new ≡ port.old)
         (λ r. IsLogged (FromLog limits.now scheme to_head) (P.log port.old) (P.log port.new)) }
 

@@ -1,6 +1,6 @@
 //! The translator to HTTP/1.1.
 ghost use Rattle.std.specs.Prelude.{◌≡◌, ◌<◌, ◌≤◌, IfOk, length};
-ghost use Rattle.bh_base.specs.Steps.{Meanings, Rose};
+ghost use Rattle.bh_base.specs.Steps.{Rose, meanings};
 ghost use Rattle.bh_model.specs.Ranges.{AreLimits};
 ghost use Rattle.bh_spec.specs.Bounds.{Bounds};
 ghost use Rattle.bh_stream.specs.Telling.{IsLogged};
@@ -61,13 +61,8 @@ fn translate<P: Port>(
     requires writer { writing.IsAtStart limits.now to_head writer.old }
     requires limits { AreLimits limits.now }
     requires size { (0 < length buffer.old) × (length buffer.old ≤ 8192) }
-    ensures { let means : Meanings P = record {
-      left = P.left;
-      sent = P.sent;
-      read_faults = P.read_faults;
-      write_faults = P.write_faults;
-    } in
-        IntoFacts limits.now to_head P.read_step P.write_step means P.log port.old result port.new }
+    ensures { IntoFacts limits.now to_head P.read_step P.write_step
+        (meanings P.left P.sent P.read_faults P.write_faults) P.log port.old result port.new }
 {
     let _ = to_head;
     let _ = limits;
@@ -82,20 +77,10 @@ pub fn to_http1<P: Port>(alloc: Global, port: &mut P, to_head: bool, limits: &Li
     // What the port gave and got, by the bytes of its calls, by what it tells of them, and by its log.
     ensures call { IntoSo result (port.new ≡ port.old)
         (λ r. IntoCall limits.now to_head P.read_step P.write_step port.old r port.new) }
-    ensures told { let means : Meanings P = record {
-      left = P.left;
-      sent = P.sent;
-      read_faults = P.read_faults;
-      write_faults = P.write_faults;
-    } in
-        IntoSo result (port.new ≡ port.old) (λ r. IntoTold limits.now to_head means port.old r port.new) }
-    ensures complete { let means : Meanings P = record {
-      left = P.left;
-      sent = P.sent;
-      read_faults = P.read_faults;
-      write_faults = P.write_faults;
-    } in
-        IntoSo result (port.new ≡ port.old) (λ r. IntoCompletes limits.now to_head means port.old r port.new) }
+    ensures told { IntoSo result (port.new ≡ port.old)
+        (λ r. IntoTold limits.now to_head (meanings P.left P.sent P.read_faults P.write_faults) port.old r port.new) }
+    ensures complete { IntoSo result (port.new ≡ port.old)
+        (λ r. IntoCompletes limits.now to_head (meanings P.left P.sent P.read_faults P.write_faults) port.old r port.new) }
     ensures log { IntoSo result (port.new ≡ port.old) (λ r. IsLogged (IntoLog limits.now to_head) (P.log port.old) (P.log port.new)) }
 
     // The faults.

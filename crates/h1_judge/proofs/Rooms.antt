@@ -1,12 +1,11 @@
 -- There is room for the sections of valid messages within the limits.
-use Rattle.std.proofs.Common.{◌≡◌, ◌≤◌, ◌<◌, ◌+◌, ◌*◌, ◌/◌, ℕ, List, [], ◌∷◌, length, All, arith}
+use Rattle.std.proofs.Common.{◌≡◌, ◌≤◌, ◌+◌, ◌*◌, ◌/◌, List, [], ◌∷◌, length, All, arith}
 use Rattle.std.proofs.lemmas.List.{length-append}
-use Rattle.bh_spec.specs.declared.Width.{Width}
-use Rattle.bh_spec.specs.declared.Width.TheVariants.{One, Two, Four, Eight}
 use Rattle.bh_spec.specs.Bounds.{Bounds}
-use Rattle.bh_spec.specs.Integers.{int, vi, least_width}
+use Rattle.bh_spec.specs.Integers.{int}
 use Rattle.bh_spec.specs.Messages.{Field}
 use Rattle.bh_spec.specs.Canonical.{string, line, lines, FieldsFit}
+use Rattle.bh_spec.proofs.Widths.{int_some}
 use Rattle.bh_model.specs.Lines.{FieldsView, lines_room}
 use Rattle.h1_head.specs.Room.{room_in, count_in}
 use Rattle.h1_rules.specs.Hopping.{HopsView}
@@ -15,15 +14,6 @@ use Rattle.h1_rules.proofs.Named.{few_lines}
 use Rattle.h1_rules.proofs.Within.{within_at}
 use Rattle.h1_judge.specs.Judges.{HasRoom, HasRoomOf, IsSound}
 use Rattle.h1_judge.specs.declared.judging.Judge.{Judge}
-
-int_some : (n : ℕ) → 0 < length (int n)
-int_some n = by_width (least_width n)
-  where
-    by_width : (w : Width) → 0 < length (vi n w)
-    by_width One = omega arith
-    by_width Two = omega arith
-    by_width Four = omega arith
-    by_width Eight = omega arith
 
 -- the text of lines has two bytes at least beside each name and value
 pub room_lines : (fields : List Field) → lines_room fields ≤ length (lines fields)

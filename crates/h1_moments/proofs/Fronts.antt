@@ -17,7 +17,7 @@ use Rattle.bh_spec.proofs.Numbers.{number_meets}
 use Rattle.bh_spec.proofs.Sections.{body_agrees}
 use Rattle.bh_spec.proofs.Whole.{framing_is}
 use Rattle.bh_spec.proofs.Marks.{bytes_of-append, content-append}
-use Rattle.bh_stream.proofs.Moving.{bytes-length}
+use Rattle.bh_stream.proofs.Moving.{shorter, bytes-length}
 use Rattle.h1_spec.specs.Http1.{interims_of}
 use Rattle.h1_spec.specs.Moments.{head_ended, content_read, trailers_ended}
 use Rattle.h1_spec.specs.Judging.{IsOpening, IsInterims, IsContent, IsClosing, ComesAt}
@@ -26,15 +26,6 @@ use Rattle.h1_spec.proofs.Members.{interim_agrees, body_all}
 use Rattle.h1_moments.proofs.Wholes.{closing_ends}
 
 -- ---- fronts of texts
-
-pub longer : (a b c d : Text) → a ++ b ≡ c ++ d → length a ≤ length c → (e : Text) × (c ≡ a ++ e)
-longer [] b c d e h = (c, refl)
-longer (x ∷ a) b [] d e h = absurd (omega (arith, h))
-longer (x ∷ a) b (y ∷ c) d e h =
-    let head : x ≡ y = cc in
-    let tail : a ++ b ≡ c ++ d = cc in
-    let r = longer a b c d tail (omega (arith, h)) in
-    (r.0, λ i. (sym head) i ∷ r.1 i)
 
 -- of texts that agree, the front of one is the front of the other
 front_text : (E : Type 0) (r a b : Text) (x y : List ℕ) → Meets ⊥ E (r ++ a) b → bytes_of r ++ x ≡ bytes_of b ++ y → (c : Text) × (b ≡ r ++ c)
@@ -94,7 +85,7 @@ placed L m o z t w s fs R front more e d =
 
 few_by : (text t opens r c : Text) (front more : List ℕ) → text ++ t ≡ opens ++ (r ++ c) → length (opens ++ r) ≤ length front → bytes_of text ≡ front ++ more → content_in r ≤ content_in text
 few_by text t opens r c front more e long h =
-    let cut = longer (opens ++ r) c text t (append_assoc opens r c ∙ sym e) (omega (arith, long, ap length h, length-append front more, bytes-length text)) in
+    let cut = shorter (opens ++ r) c text t (append_assoc opens r c ∙ sym e) (omega (arith, long, ap length h, length-append front more, bytes-length text)) in
     omega (arith, ap content_in cut.1, content-append (opens ++ r) cut.0, content-append opens r)
 
 tail_content : (L : Bounds) (form : Form) (m : Message) (o : Omitted) (z k : ℕ) (r tail : Text) (more : List ℕ) → IsContent form k r → IsTail L form m.content m.trailers o z tail

@@ -22,6 +22,7 @@ use Rattle.bh_push.specs.Standing.{Comes, IsPrompt}
 use Rattle.bh_push.specs.Pushes.{DecoderView, RefusesFirst, IsBehind, AnswersEveryCut}
 use Rattle.bh_spec.proofs.Runs.{exact_place}
 use Rattle.bh_push.proofs.Starting.{start_is}
+use Rattle.bh_push.proofs.Walking.{comes_on}
 use Rattle.bh_push.proofs.Cuts.{one_answer_for_every_cut}
 use Rattle.bh_stream.specs.Decoding.{content_items}
 use Rattle.bh_stream.proofs.Moving.{items-append, bytes-length}
@@ -35,7 +36,7 @@ use Rattle.h1_moments.proofs.Seeing.{moments-append, tail_count}
 use Rattle.h1_moments.proofs.Continuing.{start_count}
 use Rattle.h1_moments.proofs.Placing.{seen_late}
 use Rattle.h1_moments.proofs.Unseen.{none_comes_unseen}
-use Rattle.h1_moments.proofs.Lasting.{comes_behind, leads, its_moment_comes, not_before}
+use Rattle.h1_moments.proofs.Lasting.{leads, its_moment_comes, not_before}
 
 -- ---- no byte is judged where no rule holds
 
@@ -174,7 +175,7 @@ none_before L to_head bytes piece after i v w offset at c free e t prompt =
     let front = take offset piece in
     let d : Comes L v front [] w = record { within = t.within; anyway = t.anyway; goes_on = t.goes_on } in
     let both : Comes L (in_framing []) (bytes ++ front) i w =
-    subst (λ (x : List Item). Comes L (in_framing []) (bytes ++ front) x w) (append-nil i) (comes_behind L (in_framing []) v w bytes front i [] c d) in
+    subst (λ (x : List Item). Comes L (in_framing []) (bytes ++ front) x w) (append-nil i) (comes_on L (in_framing []) v w bytes front i [] c d) in
     let text : (bytes ++ front) ++ (drop offset piece ++ after) ≡ bytes ++ (piece ++ after) =
     append_assoc bytes front (drop offset piece ++ after)
     ∙ ap (λ (x : List ℕ). bytes ++ x) (sym (append_assoc front (drop offset piece) after) ∙ ap (λ (x : List ℕ). x ++ after) (take-append-drop offset piece)) in

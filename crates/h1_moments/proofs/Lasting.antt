@@ -12,16 +12,14 @@ use Rattle.bh_spec.specs.declared.Part.{Part}
 use Rattle.bh_spec.specs.declared.Part.TheVariants as parts
 use Rattle.bh_spec.specs.declared.Width.{Width}
 use Rattle.bh_spec.specs.declared.Width.TheVariants.{One, Two, Four, Eight}
-use Rattle.bh_spec.specs.Bounds.{Bounds, IsWithin, no_bounds}
+use Rattle.bh_spec.specs.Bounds.{Bounds, IsWithin}
 use Rattle.bh_spec.specs.Integers.{vi, byte_count, limit_of}
 use Rattle.bh_spec.specs.Bytes.{AreBytes}
 use Rattle.bh_spec.specs.Messages.{Field, Interim, Start, request, response, kind_of, Message, IsInterim, IsStart, AreTrailers}
 use Rattle.bh_spec.specs.Texts.{Text, bytes_of, mark, IsNumber, AreEach, content_in}
 use Rattle.bh_spec.specs.Tails.{IsBody, IsTail}
 use Rattle.bh_spec.specs.Spelling.{IsInterimText, IsStartText, framing, Spells}
-use Rattle.bh_spec.specs.Residuals.{IsResidual}
 use Rattle.bh_spec.specs.Items.{Item, Head, of_response, interim_response, head, content_byte, trailer_section, ending, start_items, trailer_items, tail_items, items}
-use Rattle.bh_spec.proofs.Residuals.{residual_on}
 use Rattle.bh_spec.proofs.Sections.{section_nonempty}
 use Rattle.bh_spec.proofs.Widths.{length-vi}
 use Rattle.bh_spec.proofs.Within.{no_headers, within_less}
@@ -30,8 +28,9 @@ use Rattle.bh_push.specs.Completing.{interim_item, ResponseRest}
 use Rattle.bh_push.specs.Decoders.{At, Rest, in_framing}
 use Rattle.bh_push.specs.Standing.{Comes, IsRight}
 use Rattle.bh_push.proofs.Starting.{start_is}
+use Rattle.bh_push.proofs.Walking.{comes_on}
 use Rattle.bh_stream.specs.Decoding.{content_items}
-use Rattle.bh_stream.proofs.Moving.{items-append, bytes-length, content-few}
+use Rattle.bh_stream.proofs.Moving.{shorter, items-append, bytes-length, content-few}
 use Rattle.bh_reading.specs.ContentLaws.{content_of_rest}
 use Rattle.h1_spec.specs.Http1.{interims_of}
 use Rattle.h1_spec.specs.Moments.{Moment, interim_ended, head_ended, content_read, trailers_ended}
@@ -43,37 +42,18 @@ use Rattle.h1_moments.specs.Seen.{Seen, interims_seen, head_seen, nothing_seen, 
 use Rattle.h1_moments.specs.Laws.{LeadsToLast, ItsMomentComes}
 use Rattle.h1_moments.proofs.Ahead.{last_status, last_section, last_long, last_items, last_response}
 use Rattle.h1_moments.proofs.Seeing.{seen-append, tail_count, message_seen, one_in, none_in}
-use Rattle.h1_moments.proofs.Fronts.{longer, Parted, parted, head_ends, trailers_end, few_content}
+use Rattle.h1_moments.proofs.Fronts.{Parted, parted, head_ends, trailers_end, few_content}
 use Rattle.h1_moments.proofs.Continuing.{Continued, continued, ends_with, ends_front, content_so_far, start_count}
 use Rattle.h1_moments.proofs.Placing.{seen_late}
 use Rattle.h1_moments.proofs.Unseen.{Snoc, snoc, interim_late, interim_next, interim_seen}
 
 -- ---- one way behind another
 
-pub comes_behind : (L : Bounds) (u v w : At) (x y : List ℕ) (i j : List Item) → Comes L u x i v → Comes L v y j w → Comes L u (x ++ y) (i ++ j) w
-comes_behind L u v w x y i j a b = record {
-  within = both (Rest L u) (Rest L v) (Rest L w) a.within b.within;
-  anyway = both (Rest no_bounds u) (Rest no_bounds v) (Rest no_bounds w) a.anyway b.anyway;
-  goes_on = b.goes_on;
-}
-  where
-    both : (R S T : List Item → Text → Type 0) → IsResidual R x (λ q. i ++ q) S → IsResidual S y (λ q. j ++ q) T → IsResidual R (x ++ y) (λ q. (i ++ j) ++ q) T
-    both R S T a b =
-        let r = residual_on R x (λ (q : List Item). i ++ q) S y (λ (q : List Item). j ++ q) T a b in
-        record {
-          text = r.text;
-          same = r.same;
-          forth = λ p t more h e.
-              let f = r.forth p t more h e in
-              record { thing = f.thing; rest = f.rest; spelled = f.spelled; same = f.same ∙ sym (append_assoc i j f.thing); joined = f.joined };
-          back = λ q t h. subst (λ (p : List Item). R p (r.text ++ t)) (sym (append_assoc i j q)) (r.back q t h);
-        }
-
 -- bytes that lead to an item, right behind it
 pub leads : (L : Bounds) (bytes run : List ℕ) (i j : List Item) (item : Item) (v w : At) → LeadsToLast L bytes run i j item v w → Comes L (in_framing []) (bytes ++ run) ((i ++ j) ++ item ∷ []) w
 leads L bytes run i j item v w h =
     subst (λ (k : List Item). Comes L (in_framing []) (bytes ++ run) k w) (sym (append_assoc i j (item ∷ [])))
-    (comes_behind L (in_framing []) v w bytes run i (j ++ item ∷ []) h.before h.comes)
+    (comes_on L (in_framing []) v w bytes run i (j ++ item ∷ []) h.before h.comes)
 
 -- ---- the head
 
@@ -283,7 +263,7 @@ interim_comes L bytes i a w moment c r (interims_seen is) seen k =
       length-append x.0 x.1,
       section_nonempty L d.spells.form m.fields x.0 x.2,
     ) in
-    let cut = longer found.text (found.last ++ u.1) c.within.text (status ++ no_section both.form) (sym whole) few in
+    let cut = shorter found.text (found.last ++ u.1) c.within.text (status ++ no_section both.form) (sym whole) few in
     by_rest found.text found.is found.before_is cut.0 cut.1 both.form both.long
   where
     by_rest : (g : Text) → (h : IsInterims L a g) → h.before ≡ is → (rest : Text) → c.within.text ≡ g ++ rest → (form : Form) → Rest L w last_items (last_status ++ last_section form) → ComesAt L bytes moment
@@ -360,7 +340,7 @@ content_here L m o z x t d byte h ends count = by_long (cases_lt (length w.opens
         by_body : (r init : Text) → r ≡ init ++ (parts.Content, byte) ∷ [] → w.tail ≡ r ++ t → (length body.0 < length r) ⊎ (length r ≤ length body.0)
             → ComesAt L (bytes_of x) (content_read m.start m.fields (content_in x))
         by_body r init f tail (inl less) =
-            let over = longer body.0 body.1 init ((parts.Content, byte) ∷ t)
+            let over = shorter body.0 body.1 init ((parts.Content, byte) ∷ t)
             (sym body.3 ∙ tail ∙ ap (λ (k : Text). k ++ t) f ∙ append_assoc init ((parts.Content, byte) ∷ []) t) (omega (arith, less, ap length f, length-append init ((parts.Content, byte) ∷ []))) in
             absurd (omega (
               arith,
@@ -376,7 +356,7 @@ content_here L m o z x t d byte h ends count = by_long (cases_lt (length w.opens
               content-append body.0 over.0,
             ))
         by_body r init f tail (inr few) =
-            let over = longer r t body.0 body.1 (sym tail ∙ body.3) few in
+            let over = shorter r t body.0 body.1 (sym tail ∙ body.3) few in
             let text : x ≡ w.opens ++ r = e_of r tail in
             let content : IsContent w.form (content_in x) r = record {
               front = init;
@@ -396,9 +376,9 @@ content_here L m o z x t d byte h ends count = by_long (cases_lt (length w.opens
                 append_cancel_right x (w.opens ++ r) t all
 
     by_long : (length w.opens < length x) ⊎ (length x ≤ length w.opens) → ComesAt L (bytes_of x) (content_read m.start m.fields (content_in x))
-    by_long (inl less) = let cut = longer w.opens w.tail x t (sym w.joined) (omega (arith, less)) in by_rest cut.0 cut.1 (snoc cut.0) less
+    by_long (inl less) = let cut = shorter w.opens w.tail x t (sym w.joined) (omega (arith, less)) in by_rest cut.0 cut.1 (snoc cut.0) less
     by_long (inr more) =
-        let cut = longer x t w.opens w.tail w.joined more in
+        let cut = shorter x t w.opens w.tail w.joined more in
         absurd (omega (arith, ap content_in cut.1, content-append x cut.0, here, none))
 
 -- ---- bytes each of which is content

@@ -1,13 +1,12 @@
 -- At the start a reader knows the texts of HTTP/1.1.
-use Rattle.std.proofs.Common.{◌≡◌, ◌+◌, ◌-◌, ℕ, Bool, List, [], ◌∷◌, ◌++◌, length, Some, refl, sym, ◌∙◌, ap, ap₂, subst, subst₂, arith, append_assoc}
+use Rattle.std.proofs.Common.{◌≡◌, ◌+◌, ◌-◌, ℕ, Bool, List, [], ◌++◌, length, Some, refl, sym, ◌∙◌, ap, subst, subst₂, arith, append_assoc}
 use Rattle.bh_spec.specs.declared.Omitted.{Omitted}
 use Rattle.bh_spec.specs.declared.Omitted.TheVariants.{Nothing}
 use Rattle.bh_spec.specs.Bounds.{Bounds, IsWithin}
-use Rattle.bh_spec.specs.Messages.{Field, Interim, Message}
+use Rattle.bh_spec.specs.Messages.{Field, Message}
 use Rattle.bh_spec.specs.Canonical.{FieldsFit}
-use Rattle.bh_spec.specs.Texts.{Text, bytes_of, ◌then◌, AreEach}
+use Rattle.bh_spec.specs.Texts.{Text, bytes_of}
 use Rattle.bh_spec.specs.Items.{Item, start_items, tail_items, items}
-use Rattle.bh_spec.proofs.Marks.{bytes_of-append}
 use Rattle.bh_model.specs.Ranges.{AreLimits}
 use Rattle.bh_stream.specs.Messages.{Spelled, items_in}
 use Rattle.bh_reading.specs.ReadingLaws.{room_at}
@@ -18,18 +17,19 @@ use Rattle.h1_spec.specs.Heads.{Head}
 use Rattle.h1_spec.specs.Cleaning.{hops, clean, clean_trailers, says_host}
 use Rattle.h1_spec.specs.Framing.{framing}
 use Rattle.h1_spec.specs.Bodies.{IsBody}
-use Rattle.h1_spec.specs.Http1.{IsHeadWithin, IsInterimHead, interims_of, IsStartOf, IsHttp1}
-use Rattle.h1_spec.specs.Marks.{as_framing, IsMarkedBody, IsMarked}
+use Rattle.h1_spec.specs.Http1.{interims_of, IsStartOf, IsHttp1}
+use Rattle.h1_spec.specs.Marks.{IsMarkedBody, IsMarked}
 use Rattle.h1_spec.specs.BodyStates.{start as body_start, Rest, marked}
-use Rattle.h1_spec.proofs.Fronts.{Front, front_then}
-use Rattle.h1_spec.proofs.Reading.{within_front, interim_front, same_parts, one_message}
+use Rattle.h1_spec.proofs.OneMark.{heads_front}
+use Rattle.h1_spec.proofs.Reading.{start_is_last, same_parts, one_message}
 use Rattle.h1_spec.proofs.OneAnswer.{few_of}
-use Rattle.h1_spec.proofs.BodyMarks.{framing_bytes, marked_bytes}
+use Rattle.h1_spec.proofs.BodyMarks.{marked_bytes}
 use Rattle.h1_spec.proofs.BodyStarts.{starts}
 use Rattle.h1_spec.proofs.MarkedBodies.{marks_body, body_marked}
 use Rattle.h1_read.specs.Places.{Setting, Place, in_head, left_out, HeadRest, RestFrom}
 use Rattle.h1_read.specs.Readings.{View, rest, room, IsReady, IsAtStart}
 use Rattle.h1_read.specs.Laws.{IsHttp1Text, KnowsHttp1, ReadyAtStart}
+use Rattle.h1_read.proofs.HeadSteps.{heads_bytes}
 
 -- ---- what completes a message from its start is a message
 
@@ -46,9 +46,8 @@ framing_of S q t h = framing S.to_head h.head
 
 rest_bytes : (S : Setting) (q : List Item) (t : Text) (h : HeadRest S 0 [] q t) → bytes_of t ≡ h.heads ++ h.tail.bytes
 rest_bytes S q t h =
-    ap bytes_of h.text_is ∙ bytes_of-append (as_framing h.heads) h.body
-    ∙ ap₂ (λ (a b : List ℕ). a ++ b) (framing_bytes h.heads)
-    (ap bytes_of h.tail.text_is ∙ marked_bytes (body_start (framing_of S q t h)) h.tail.bytes)
+    heads_bytes h.heads h.body t h.text_is
+    ∙ ap (λ (z : List ℕ). h.heads ++ z) (ap bytes_of h.tail.text_is ∙ marked_bytes (body_start (framing_of S q t h)) h.tail.bytes)
 
 rest_body : (S : Setting) (q : List Item) (t : Text) (h : HeadRest S 0 [] q t)
     → IsBody S.limits (framing S.to_head h.head) h.tail.content h.tail.trailers h.tail.bytes
@@ -106,30 +105,16 @@ text_of_rest S q t h = (
 
 -- ---- and back
 
-interims_front : (L : Bounds) (is : List Interim)
-    → Front (Unit {0}) (AreEach (IsInterimHead L) is) (AreEach (IsInterimHead L) is)
-interims_front L [] x y r s p q e = (tt, sym (ap (λ (z : List ℕ). z ++ r) p) ∙ e ∙ ap (λ (z : List ℕ). z ++ s) q)
-interims_front L (i ∷ is) x y r s p q e =
-    front_then (i ≡ i) (Unit {0}) (IsInterimHead L i) (AreEach (IsInterimHead L) is) (IsInterimHead L i) (AreEach (IsInterimHead L) is)
-    (interim_front L L i i) (λ same. interims_front L is) x y r s p q e
-
-abbrev AreHeads : Bounds → List Interim → Head → List ℕ → Type 0
-AreHeads L is head = AreEach (IsInterimHead L) is then IsHeadWithin L head
-
-heads_front : (L : Bounds) (is : List Interim) (head : Head) → Front (head ≡ head) (AreHeads L is head) (AreHeads L is head)
-heads_front L is head = front_then (Unit {0}) (head ≡ head) (AreEach (IsInterimHead L) is) (IsHeadWithin L head)
-    (AreEach (IsInterimHead L) is) (IsHeadWithin L head) (interims_front L is) (λ e. within_front L L head head)
-
 -- the body is what stands behind the heads
 text_body : (L : Bounds) (to_head : Bool) (m : Message) (t : Text) (h : IsMarked L to_head m t)
     → IsBody L (framing to_head h.whole.head) m.content h.whole.trailers (bytes_of h.body)
 text_body L to_head m t h =
     let w = h.whole.text in
     let b = w.3 in
-    let bytes : bytes_of t ≡ h.heads ++ bytes_of h.body =
-    ap bytes_of h.split ∙ bytes_of-append (as_framing h.heads) h.body ∙ ap (λ (z : List ℕ). z ++ bytes_of h.body) (framing_bytes h.heads) in
-    let same = heads_front L (interims_of m.start) h.whole.head (w.0 ++ b.0) h.heads b.1 (bytes_of h.body) (w.0, b.0, w.2, b.2, refl)
-    h.heads_are (append_assoc w.0 b.0 b.1 ∙ ap (λ (z : List ℕ). w.0 ++ z) (sym b.4) ∙ sym w.4 ∙ bytes) in
+    let is = interims_of m.start in
+    let last = start_is_last h.scheme h.whole.head m.start h.whole.start in
+    let same = heads_front L L is is h.whole.head h.whole.head last last (w.0 ++ b.0) h.heads b.1 (bytes_of h.body) (w.0, b.0, w.2, b.2, refl)
+    h.heads_are (append_assoc w.0 b.0 b.1 ∙ ap (λ (z : List ℕ). w.0 ++ z) (sym b.4) ∙ sym w.4 ∙ heads_bytes h.heads h.body t h.split) in
     subst (IsBody L (framing to_head h.whole.head) m.content h.whole.trailers) same.1 b.3
 
 text_items : (s : Spelled) (fields trailers : List Field) (omitted : Omitted) → s.message.fields ≡ fields

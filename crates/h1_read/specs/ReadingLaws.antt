@@ -7,10 +7,10 @@ use Rattle.bh_spec.specs.Texts.{Text, content_in}
 use Rattle.bh_spec.specs.Residuals.{IsResidual}
 use Rattle.bh_spec.specs.Items.{Item, start_items}
 use Rattle.bh_spec.proofs.Marks.{content-append}
-use Rattle.bh_spec.proofs.Residuals.{residual_here}
+use Rattle.bh_spec.proofs.Residuals.{residual_here, behind_items}
 use Rattle.bh_stream.specs.Decoding.{content_items, Leads, DecoderLaws}
 use Rattle.bh_stream.proofs.Moving.{items-append}
-use Rattle.bh_reading.specs.ReadingLaws.{lines-append, kind-append, room_at, behind_items}
+use Rattle.bh_reading.specs.ReadingLaws.{lines-append, kind-append, room_at}
 use Rattle.bh_reading.specs.Readings.{kind_behind}
 use Rattle.bh_reading.proofs.Judging.{start_content, tail_content}
 use Rattle.h1_spec.specs.Cleaning.{hops, clean, clean_trailers, says_host}

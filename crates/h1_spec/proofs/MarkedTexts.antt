@@ -24,7 +24,7 @@ use Rattle.h1_spec.proofs.Forth.{built_within, no_limits}
 
 -- ---- its bytes
 
-chunk_bytes : (chunk : List ℕ) → bytes_of (marked_chunk chunk) ≡ chunk_text chunk
+pub chunk_bytes : (chunk : List ℕ) → bytes_of (marked_chunk chunk) ≡ chunk_text chunk
 chunk_bytes chunk =
     let line : List ℕ = hex_within 15 (length chunk) ++ crlf in
     bytes_of-append (as_framing line) (as_content chunk ++ as_framing crlf)
@@ -37,13 +37,17 @@ chunks_bytes [] = refl
 chunks_bytes (chunk ∷ chunks) =
     bytes_of-append (marked_chunk chunk) (flat_map marked_chunk chunks) ∙ ap₂ (λ (a b : List ℕ). a ++ b) (chunk_bytes chunk) (chunks_bytes chunks)
 
+pub chunked_bytes : (content : List ℕ) (trailers : List Field)
+    → bytes_of (flat_map marked_chunk (cut 8192 content) ++ as_framing (last_text trailers)) ≡ flat_map chunk_text (cut 8192 content) ++ last_text trailers
+chunked_bytes content trailers =
+    bytes_of-append (flat_map marked_chunk (cut 8192 content)) (as_framing (last_text trailers))
+    ∙ ap₂ (λ (a b : List ℕ). a ++ b) (chunks_bytes (cut 8192 content)) (framing_bytes (last_text trailers))
+
 body_bytes : (f : Framing1) (m : Message) → bytes_of (marked_body f m) ≡ body_text f m
 body_bytes Empty m = refl
 body_bytes (Counted n) m = content_bytes m.content
 body_bytes ToEnd m = content_bytes m.content
-body_bytes Chunked m =
-    bytes_of-append (flat_map marked_chunk (cut 8192 m.content)) (as_framing (last_text m.trailers))
-    ∙ ap₂ (λ (a b : List ℕ). a ++ b) (chunks_bytes (cut 8192 m.content)) (framing_bytes (last_text m.trailers))
+body_bytes Chunked m = chunked_bytes m.content m.trailers
 
 pub marks_the_text : MarksTheText
 marks_the_text to_head m =

@@ -1,5 +1,5 @@
 -- The marked bytes of a text are the content of its message.
-use Rattle.std.proofs.Common.{◌≡◌, arith, ℕ, List, [], ◌∷◌, ◌++◌, length, refl, sym, ap, ◌∙◌, length-append}
+use Rattle.std.proofs.Common.{◌≡◌, arith, ℕ, List, [], ◌∷◌, ◌++◌, length, sym, ap, ◌∙◌, length-append}
 use Rattle.std.specs.List.{concat}
 use Rattle.bh_spec.specs.Bounds.{Bounds}
 use Rattle.bh_spec.specs.Messages.{Field}
@@ -12,25 +12,18 @@ use Rattle.h1_spec.specs.Bodies.{IsBody}
 use Rattle.bh_spec.proofs.Marks.{content-append}
 use Rattle.h1_spec.specs.Marks.{as_content, as_framing, IsMarkedChunk, IsMarkedBody}
 use Rattle.h1_spec.specs.Laws.{MarksTheContent}
+use Rattle.h1_spec.proofs.BodyMarks.{framing_none, content_all}
 
-framing_none : (bytes : List ℕ) → content_in (as_framing bytes) ≡ 0
-framing_none [] = refl
-framing_none (x ∷ bytes) = omega (arith, framing_none bytes)
-
-content_all : (bytes : List ℕ) → content_in (as_content bytes) ≡ length bytes
-content_all [] = refl
-content_all (x ∷ bytes) = omega (arith, content_all bytes)
-
-chunk_count : (chunk : List ℕ) (t : Text) → IsMarkedChunk chunk t → content_in t ≡ length chunk
-chunk_count chunk t h =
-    ap content_in h.2
-    ∙ omega (arith, content-append (as_framing h.0) (as_content chunk ++ as_framing crlf), framing_none h.0, content-append (as_content chunk) (as_framing crlf), content_all chunk, framing_none crlf)
+pub chunk_count : (chunk line : List ℕ) (t : Text) → t ≡ as_framing line ++ (as_content chunk ++ as_framing crlf) → content_in t ≡ length chunk
+chunk_count chunk line t e =
+    ap content_in e
+    ∙ omega (arith, content-append (as_framing line) (as_content chunk ++ as_framing crlf), framing_none line, content-append (as_content chunk) (as_framing crlf), content_all chunk, framing_none crlf)
 
 chunks_count : (chunks : List (List ℕ)) (t : Text) → AreEach IsMarkedChunk chunks t → content_in t ≡ length (concat chunks)
 chunks_count [] t h = ap content_in h
 chunks_count (chunk ∷ rest) t h =
     ap content_in h.4
-    ∙ omega (arith, content-append h.0 h.1, chunk_count chunk h.0 h.2, chunks_count rest h.1 h.3, length-append chunk (concat rest))
+    ∙ omega (arith, content-append h.0 h.1, chunk_count chunk h.2.0 h.0 h.2.2, chunks_count rest h.1 h.3, length-append chunk (concat rest))
 
 pub body_count : (L : Bounds) (f : Framing1) (content : List ℕ) (trailers : List Field) (bytes : List ℕ) (t : Text) → IsBody L f content trailers bytes → IsMarkedBody f content t → content_in t ≡ length content
 body_count L Empty content trailers bytes t b h = ap content_in h ∙ ap length (sym b.0)

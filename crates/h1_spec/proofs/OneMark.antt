@@ -54,10 +54,10 @@ agree_heads (a ∷ x) (b ∷ y) r s f g k = (refl, λ e. agree_heads x y r s (λ
     both : (a b : ℕ) (x y : List ℕ) → a ≡ b → x ≡ y → a ∷ x ≡ b ∷ y
     both a b x y e d = cc
 
-abbrev AreHeads : Bounds → List Interim → Head → List ℕ → Type 0
+abbrev pub AreHeads : Bounds → List Interim → Head → List ℕ → Type 0
 AreHeads L is head = AreEach (IsInterimHead L) is then IsHeadWithin L head
 
-heads_front : (K L : Bounds) (is js : List Interim) (h k : Head) → IsLast h → IsLast k → Front ((is ≡ js) × (h ≡ k)) (AreHeads K is h) (AreHeads L js k)
+pub heads_front : (K L : Bounds) (is js : List Interim) (h k : Head) → IsLast h → IsLast k → Front ((is ≡ js) × (h ≡ k)) (AreHeads K is h) (AreHeads L js k)
 heads_front K L is js h k p q =
     front_each (h ≡ k) Any (IsInterimHead K) (IsInterimHead L) (IsHeadWithin K h) (IsHeadWithin L k)
     (record {
@@ -76,9 +76,9 @@ agree K L to_head m n t u p q = subst₂ Agree (sym p.split) (sym q.split)
     (λ z e. sym (front p.heads q.heads [] z p.heads_are q.heads_are (append-nil p.heads ∙ e)).1)
     (λ z e. (front p.heads q.heads z [] p.heads_are q.heads_are (sym e ∙ sym (append-nil q.heads))).1)
     (λ e.
-        let same = (front p.heads q.heads [] [] p.heads_are q.heads_are (ap (λ (l : List ℕ). l ++ []) e)).0.1 in
-        agree_body (framing to_head p.whole.head) m.content n.content p.body q.body p.marked
-        (subst (λ (h : Head). IsMarkedBody (framing to_head h) n.content q.body) (sym same) q.marked)))
+    let same = (front p.heads q.heads [] [] p.heads_are q.heads_are (ap (λ (l : List ℕ). l ++ []) e)).0.1 in
+    agree_body (framing to_head p.whole.head) m.content n.content p.body q.body p.marked
+    (subst (λ (h : Head). IsMarkedBody (framing to_head h) n.content q.body) (sym same) q.marked)))
   where
     front : Front ((interims_of m.start ≡ interims_of n.start) × (p.whole.head ≡ q.whole.head)) (AreHeads K (interims_of m.start) p.whole.head) (AreHeads L (interims_of n.start) q.whole.head)
     front = heads_front K L (interims_of m.start) (interims_of n.start) p.whole.head q.whole.head

@@ -4,6 +4,7 @@ use Rattle.std.proofs.lemmas.Bool.{eqb-true}
 use Rattle.std.specs.Prelude.{IsErr, eqb}
 use Rattle.bh_spec.specs.Messages.{Field}
 use Rattle.bh_spec.specs.Canonical.{cut}
+use Rattle.bh_spec.proofs.Written.{cut_few}
 use Rattle.bh_base.specs.declared.failed.Failed.{Failed}
 use Rattle.bh_base.specs.Steps.{Step, WroteAll}
 use Rattle.bh_base.specs.Batches.{Writes}
@@ -22,7 +23,7 @@ use Rattle.h1_text.specs.Holding.{Keeps}
 use Rattle.h1_text.specs.Writers.{framed, IsFramed, IsStage, room_of}
 use Rattle.h1_text.specs.declared.stage.Stage.{Stage}
 use Rattle.h1_text.specs.declared.stage.Stage.TheVariants as stages
-use Rattle.h1_text.proofs.Owing.{cut_few, body_shows, body_bytes, piece_first, piece_shows, piece_bytes}
+use Rattle.h1_text.proofs.Owing.{body_shows, body_bytes, piece_first, piece_shows, piece_bytes}
 use Rattle.h1_text.proofs.Gathering.{gathered}
 use Rattle.h1_text.proofs.Sending.{none_goes, of_writer, of_piece, goes_as, goes_on, goes_off}
 
@@ -64,7 +65,7 @@ last_bytes trailers = written_plain (last_text trailers)
 
 one_chunk : (kept : List ℕ) (trailers : List Field) → 0 < length kept → length kept ≤ 8192 → body_out true kept trailers ≡ chunk_out kept ++ body_out true [] trailers
 one_chunk kept trailers some few =
-    ap (λ (l : List (List ℕ)). flat_map chunk_out l ++ plain (last_text trailers)) (cut_few kept some few)
+    ap (λ (l : List (List ℕ)). flat_map chunk_out l ++ plain (last_text trailers)) (cut_few 8192 kept some few)
     ∙ ap (λ (o : Output). o ++ plain (last_text trailers)) (append-nil (chunk_out kept))
 
 pub head_room : {A E : Type 0} (chunked : Bool) (before now : GatheredView) (got : Result A E) → length (head_end true) < before.room

@@ -1,29 +1,28 @@
 -- What is owed for the items of a message is its text with its marks.
-use Rattle.std.proofs.Common.{◌≡◌, Bool, true, false, ℕ, List, [], ◌∷◌, ◌++◌, map, flat_map, length, refl, sym, ap, ap₂, ◌∙◌, append_assoc, append-nil}
+use Rattle.std.proofs.Common.{◌≡◌, Bool, false, ℕ, List, [], ◌∷◌, ◌++◌, map, flat_map, refl, sym, ap, ap₂, ◌∙◌, append_assoc, append-nil}
 use Rattle.std.proofs.lemmas.Grind.{flat_map-append}
 use Rattle.bh_spec.specs.declared.Omitted.{Omitted}
 use Rattle.bh_spec.specs.declared.Omitted.TheVariants.{Nothing, Trailers, Both}
 use Rattle.bh_spec.specs.Messages.{Field, Interim, Start, request, response, Message}
-use Rattle.bh_spec.specs.Canonical.{cut}
 use Rattle.bh_spec.specs.Items.{Item, interim_response, head, ending, Head, of_request, of_response, start_items, tail_items, trailer_items, items}
 use Rattle.h1_spec.specs.declared.Framing1.{Framing1}
 use Rattle.h1_spec.specs.declared.Framing1.TheVariants.{Empty, Counted, Chunked, ToEnd}
 use Rattle.h1_spec.specs.Grammar.{crlf}
-use Rattle.h1_spec.specs.Http1Text.{field_line, field_lines, interim_text, start_line, said_host, hex_within, head_text, framing_written, coding_lines, text_of}
-use Rattle.h1_spec.specs.Written.{last_text, coding_line}
+use Rattle.h1_spec.specs.Http1Text.{field_line, field_lines, interim_text, start_line, said_host, head_text, framing_written, coding_lines, text_of}
+use Rattle.h1_spec.specs.Written.{coding_line}
 use Rattle.h1_spec.specs.Laws.{LeavesOut}
 use Rattle.h1_spec.specs.Http1.{start_of}
 use Rattle.bh_spec.specs.Texts.{Text}
-use Rattle.h1_spec.specs.Marks.{as_framing, as_content, marked_chunk, marked_body, marked_text}
-use Rattle.h1_spec.proofs.BodyMarks.{framing_none, framing_bytes, framing-append}
+use Rattle.h1_spec.specs.Marks.{as_framing, marked_body, marked_text}
+use Rattle.h1_spec.proofs.BodyMarks.{framing-append}
 use Rattle.h1_spec.proofs.MarkedTexts.{marks_the_text}
 use Rattle.bh_stream.specs.Outputs.{Output, written, weighed, plain}
-use Rattle.bh_stream.proofs.Outputs.{weighed_bytes, weighed-append, weighed_plain, weighed_shown}
+use Rattle.bh_stream.proofs.Outputs.{weighed_bytes, weighed-append, weighed_shown}
 use Rattle.bh_stream.specs.Tails.{trailers_of}
 use Rattle.bh_stream.proofs.Tails.{content_behind, trailers_behind, no_content}
-use Rattle.h1_text.specs.Owed.{chunk_out, body_out, is_chunked, head_front, head_end, final_out, message_of, at_start, owed}
+use Rattle.h1_text.specs.Owed.{body_out, is_chunked, head_front, head_end, final_out, message_of, at_start, owed}
 use Rattle.h1_text.specs.Laws.{OwesTheText}
-use Rattle.h1_text.proofs.Owing.{plain-append}
+use Rattle.h1_text.proofs.Owing.{plain-append, weighs_framing, chunked_weighs}
 
 -- ---- the head
 
@@ -50,28 +49,7 @@ head_is f m =
     ∙ split_head (start_line m.start) first (coding_lines f)
     ∙ ap (λ (l : List Field). head_front m.start m.fields ++ (field_lines l ++ crlf)) (coding_is f)
 
--- ---- the body
-
-weighs_framing : (x : List ℕ) → plain x ≡ weighed (as_framing x)
-weighs_framing x = sym (weighed_plain (as_framing x) (framing_none x) ∙ ap plain (framing_bytes x))
-
-chunk_weighs : (chunk : List ℕ) → chunk_out chunk ≡ weighed (marked_chunk chunk)
-chunk_weighs chunk =
-    let line : List ℕ = hex_within 15 (length chunk) ++ crlf in
-    ap₂ (λ (a b : Output). a ++ b) (weighs_framing line)
-    (ap₂ (λ (a b : Output). a ++ b) (sym (weighed_shown chunk)) (weighs_framing crlf) ∙ sym (weighed-append (as_content chunk) (as_framing crlf)))
-    ∙ sym (weighed-append (as_framing line) (as_content chunk ++ as_framing crlf))
-
-chunks_weigh : (chunks : List (List ℕ)) → flat_map chunk_out chunks ≡ weighed (flat_map marked_chunk chunks)
-chunks_weigh [] = refl
-chunks_weigh (chunk ∷ chunks) =
-    ap₂ (λ (a b : Output). a ++ b) (chunk_weighs chunk) (chunks_weigh chunks) ∙ sym (weighed-append (marked_chunk chunk) (flat_map marked_chunk chunks))
-
-chunked_weighs : (m : Message) → body_out true m.content m.trailers ≡ weighed (marked_body Chunked m)
-chunked_weighs m =
-    let chunks : List (List ℕ) = cut 8192 m.content in
-    ap₂ (λ (a b : Output). a ++ b) (chunks_weigh chunks) (weighs_framing (last_text m.trailers))
-    ∙ sym (weighed-append (flat_map marked_chunk chunks) (as_framing (last_text m.trailers)))
+-- ---- the head and the body
 
 -- a head and a body behind it
 bodied_is : (f : Framing1) (m : Message) → body_out (is_chunked f) m.content m.trailers ≡ weighed (marked_body f m)
@@ -83,7 +61,7 @@ bodied_is f m weighs =
 final_is : (f : Framing1) (m : Message) → final_out f (head_front m.start m.fields) m.content m.trailers ≡ weighed (as_framing (head_text f m) ++ marked_body f m)
 final_is Empty m = ap plain (sym (head_is Empty m)) ∙ weighs_framing (head_text Empty m) ∙ ap weighed (sym (append-nil (as_framing (head_text Empty m))))
 final_is (Counted n) m = bodied_is (Counted n) m (sym (weighed_shown m.content))
-final_is Chunked m = bodied_is Chunked m (chunked_weighs m)
+final_is Chunked m = bodied_is Chunked m (chunked_weighs m.content m.trailers)
 final_is ToEnd m = bodied_is ToEnd m (sym (weighed_shown m.content))
 
 -- ---- the items

@@ -1,5 +1,5 @@
 use Rattle.std.proofs.Common.{refl}
-use Rattle.bh_encode.proofs.Putting.{puts_on, puts_as}
+use Rattle.bh_base.proofs.Putting.{puts_on, puts_as}
 use Rattle.bh_encode.proofs.Gathering.{put_whole}
 use Rattle.bh_encode.proofs.parts.put_line.Goals as goal
 

@@ -1,13 +1,11 @@
 use Rattle.std.proofs.Common.{◌+◌, ◌∷◌, [], ◌≡◌, ℕ, List, Some, None, length, map, refl, subst, arith}
 use Rattle.bh_spec.specs.declared.Refusal.TheVariants.{Dead, Limit, TooLong}
-use Rattle.bh_spec.proofs.Within.{within_some}
 use Rattle.bh_spec.specs.Items.{interim_response, head, content_byte, trailer_section}
 use Rattle.bh_push.specs.Courses.{head_of, place_of}
 use Rattle.bh_push.specs.Hands.{Held, Handed, IsLong, Keeps}
 use Rattle.bh_push.specs.Pushes.{Refuses}
 use Rattle.bh_push.specs.Kinds.{KindBehind}
-use Rattle.bh_push.proofs.Inputs.{not_some}
-use Rattle.bh_push.proofs.Handing.{right_content, kind_behind, kind_again, stood_behind, Within, view, held, handed_walk, handed_whole, ends_so, long_so, refuses_more, refuses_at, refuses_limit, refuses_again}
+use Rattle.bh_push.proofs.Handing.{right_content, kind_behind, kind_again, stood_behind, within_at, view, held, handed_walk, handed_whole, ends_so, long_so, refuses_more, refuses_at, refuses_limit, refuses_again}
 use Rattle.bh_push.proofs.decoder.Decoder.push.Goals as goal
 
 pub returns-in-Some-clause-hands : goal.returns-in-Some-clause-hands
@@ -23,12 +21,7 @@ returns-then-within-piece-clause-hands c =
     let piece : List ℕ = c.args.piece.now in
     let within : List ℕ = c.first_of-within.result.now in
     let most = c.input.result in
-    let g : Within d.course d.taken most d.refusal piece within = record {
-      input = c.input.ensures.value;
-      few = within_some d.course.limits.input most d.taken c.input.ensures.value c.self.invariant.counted;
-      front = record { same = c.first_of-within.ensures };
-      none = not_some d.refusal c.in_default.not-Some;
-    } in
+    let g = within_at d.course d.taken most d.refusal piece within c.input.ensures.value c.self.invariant.counted c.first_of-within.ensures c.in_default.not-Some in
     let n = d.taken + length within in
     subst (λ (v : Held). Refuses v.decoder.refusal v.decoder piece (TooLong n) (view w n (Some (TooLong n))) × Keeps v (held w n (Some (TooLong n)))) c.self.view_is
     (refuses_more d.course w d.taken most d.refusal piece within g (omega (arith, c.if-within-piece.true)) c.in-Need.ensures)
@@ -40,12 +33,7 @@ returns-else-within-piece-clause-hands c =
     let piece : List ℕ = c.args.piece.now in
     let within : List ℕ = c.first_of-within.result.now in
     let most = c.input.result in
-    let g : Within d.course d.taken most d.refusal piece within = record {
-      input = c.input.ensures.value;
-      few = within_some d.course.limits.input most d.taken c.input.ensures.value c.self.invariant.counted;
-      front = record { same = c.first_of-within.ensures };
-      none = not_some d.refusal c.in_default.not-Some;
-    } in
+    let g = within_at d.course d.taken most d.refusal piece within c.input.ensures.value c.self.invariant.counted c.first_of-within.ensures c.in_default.not-Some in
     subst (λ (v : Held). Handed v piece (length piece) [] (held w (d.taken + length within) d.refusal)) c.self.view_is
     (handed_whole d.course w d.taken most d.refusal piece within g (omega (arith, c.if-within-piece.false)) c.in-Need.ensures)
 
@@ -56,12 +44,7 @@ returns-in-Interim-clause-hands c =
     let piece : List ℕ = c.args.piece.now in
     let within : List ℕ = c.first_of-within.result.now in
     let most = c.input.result in
-    let g : Within d.course d.taken most d.refusal piece within = record {
-      input = c.input.ensures.value;
-      few = within_some d.course.limits.input most d.taken c.input.ensures.value c.self.invariant.counted;
-      front = record { same = c.first_of-within.ensures };
-      none = not_some d.refusal c.in_default.not-Some;
-    } in
+    let g = within_at d.course d.taken most d.refusal piece within c.input.ensures.value c.self.invariant.counted c.first_of-within.ensures c.in_default.not-Some in
     let yields = interim_response c.in-Interim.status w.section.lines ∷ [] in (
       c.in-Interim.ensures.0,
       w.section.lines,
@@ -76,12 +59,7 @@ returns-in-Trailers-clause-hands c =
     let piece : List ℕ = c.args.piece.now in
     let within : List ℕ = c.first_of-within.result.now in
     let most = c.input.result in
-    let g : Within d.course d.taken most d.refusal piece within = record {
-      input = c.input.ensures.value;
-      few = within_some d.course.limits.input most d.taken c.input.ensures.value c.self.invariant.counted;
-      front = record { same = c.first_of-within.ensures };
-      none = not_some d.refusal c.in_default.not-Some;
-    } in
+    let g = within_at d.course d.taken most d.refusal piece within c.input.ensures.value c.self.invariant.counted c.first_of-within.ensures c.in_default.not-Some in
     let yields = trailer_section w.section.lines ∷ [] in (
       c.in-Trailers.ensures.0,
       w.section.lines,
@@ -96,12 +74,7 @@ returns-in-Head-clause-hands c =
     let piece : List ℕ = c.args.piece.now in
     let within : List ℕ = c.first_of-within.result.now in
     let most = c.input.result in
-    let g : Within d.course d.taken most d.refusal piece within = record {
-      input = c.input.ensures.value;
-      few = within_some d.course.limits.input most d.taken c.input.ensures.value c.self.invariant.counted;
-      front = record { same = c.first_of-within.ensures };
-      none = not_some d.refusal c.in_default.not-Some;
-    } in
+    let g = within_at d.course d.taken most d.refusal piece within c.input.ensures.value c.self.invariant.counted c.first_of-within.ensures c.in_default.not-Some in
     let yields = head (head_of w.status w.control.control) w.section.lines ∷ [] in (
       c.in-Head.ensures.0,
       head_of w.status w.control.control,
@@ -117,12 +90,7 @@ returns-in-Content-clause-hands c =
     let piece : List ℕ = c.args.piece.now in
     let within : List ℕ = c.first_of-within.result.now in
     let most = c.input.result in
-    let g : Within d.course d.taken most d.refusal piece within = record {
-      input = c.input.ensures.value;
-      few = within_some d.course.limits.input most d.taken c.input.ensures.value c.self.invariant.counted;
-      front = record { same = c.first_of-within.ensures };
-      none = not_some d.refusal c.in_default.not-Some;
-    } in
+    let g = within_at d.course d.taken most d.refusal piece within c.input.ensures.value c.self.invariant.counted c.first_of-within.ensures c.in_default.not-Some in
     let s = c.in-Content.ensures in
     let taken = c.in-Content.taken in
     let bytes : List ℕ = c.in-Content.bytes.now in
@@ -139,12 +107,7 @@ returns-in-Dead-clause-hands c =
     let piece : List ℕ = c.args.piece.now in
     let within : List ℕ = c.first_of-within.result.now in
     let most = c.input.result in
-    let g : Within d.course d.taken most d.refusal piece within = record {
-      input = c.input.ensures.value;
-      few = within_some d.course.limits.input most d.taken c.input.ensures.value c.self.invariant.counted;
-      front = record { same = c.first_of-within.ensures };
-      none = not_some d.refusal c.in_default.not-Some;
-    } in
+    let g = within_at d.course d.taken most d.refusal piece within c.input.ensures.value c.self.invariant.counted c.first_of-within.ensures c.in_default.not-Some in
     let n = d.taken + c.in-Dead.offset in
     let r = Dead n c.in-Dead.part in
     subst (λ (v : Held). Refuses v.decoder.refusal v.decoder piece r (view w n (Some r)) × Keeps v (held w n (Some r))) c.self.view_is
@@ -157,12 +120,7 @@ returns-in-Limit-clause-hands c =
     let piece : List ℕ = c.args.piece.now in
     let within : List ℕ = c.first_of-within.result.now in
     let most = c.input.result in
-    let g : Within d.course d.taken most d.refusal piece within = record {
-      input = c.input.ensures.value;
-      few = within_some d.course.limits.input most d.taken c.input.ensures.value c.self.invariant.counted;
-      front = record { same = c.first_of-within.ensures };
-      none = not_some d.refusal c.in_default.not-Some;
-    } in
+    let g = within_at d.course d.taken most d.refusal piece within c.input.ensures.value c.self.invariant.counted c.first_of-within.ensures c.in_default.not-Some in
     let n = d.taken + c.in-Limit.offset in
     let r = Limit n c.in-Limit.part in
     subst (λ (v : Held). Refuses v.decoder.refusal v.decoder piece r (view w n (Some r)) × Keeps v (held w n (Some r))) c.self.view_is
@@ -183,12 +141,7 @@ returns-then-within-piece-clause-kind c =
     let piece : List ℕ = c.args.piece.now in
     let within : List ℕ = c.first_of-within.result.now in
     let most = c.input.result in
-    let g : Within d.course d.taken most d.refusal piece within = record {
-      input = c.input.ensures.value;
-      few = within_some d.course.limits.input most d.taken c.input.ensures.value c.self.invariant.counted;
-      front = record { same = c.first_of-within.ensures };
-      none = not_some d.refusal c.in_default.not-Some;
-    } in
+    let g = within_at d.course d.taken most d.refusal piece within c.input.ensures.value c.self.invariant.counted c.first_of-within.ensures c.in_default.not-Some in
     let n = d.taken + length within in
     let r = TooLong n in
     subst (λ (v : Held). v.decoder.refusal ≡ None → KindBehind v piece r (held w n (Some r))) c.self.view_is
@@ -201,12 +154,7 @@ returns-in-Dead-clause-kind c =
     let piece : List ℕ = c.args.piece.now in
     let within : List ℕ = c.first_of-within.result.now in
     let most = c.input.result in
-    let g : Within d.course d.taken most d.refusal piece within = record {
-      input = c.input.ensures.value;
-      few = within_some d.course.limits.input most d.taken c.input.ensures.value c.self.invariant.counted;
-      front = record { same = c.first_of-within.ensures };
-      none = not_some d.refusal c.in_default.not-Some;
-    } in
+    let g = within_at d.course d.taken most d.refusal piece within c.input.ensures.value c.self.invariant.counted c.first_of-within.ensures c.in_default.not-Some in
     let n = d.taken + c.in-Dead.offset in
     let r = Dead n c.in-Dead.part in
     subst (λ (v : Held). v.decoder.refusal ≡ None → KindBehind v piece r (held w n (Some r))) c.self.view_is
@@ -219,12 +167,7 @@ returns-in-Limit-clause-kind c =
     let piece : List ℕ = c.args.piece.now in
     let within : List ℕ = c.first_of-within.result.now in
     let most = c.input.result in
-    let g : Within d.course d.taken most d.refusal piece within = record {
-      input = c.input.ensures.value;
-      few = within_some d.course.limits.input most d.taken c.input.ensures.value c.self.invariant.counted;
-      front = record { same = c.first_of-within.ensures };
-      none = not_some d.refusal c.in_default.not-Some;
-    } in
+    let g = within_at d.course d.taken most d.refusal piece within c.input.ensures.value c.self.invariant.counted c.first_of-within.ensures c.in_default.not-Some in
     let n = d.taken + c.in-Limit.offset in
     let r = Limit n c.in-Limit.part in
     subst (λ (v : Held). v.decoder.refusal ≡ None → KindBehind v piece r (held w n (Some r))) c.self.view_is
