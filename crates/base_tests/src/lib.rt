@@ -1,7 +1,7 @@
-//! Tests of `bh_base` and `bh_varint`: objects in memory with their counted faults, batches, classes of bytes; integers.
+//! Tests of `bh_varint`, and of classes of bytes and errors of `bh_base`.
 #![tactic(auto)]
 
 #[cfg(test)]
-mod base;
+mod classes;
 #[cfg(test)]
 mod varint;

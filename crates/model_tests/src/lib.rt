@@ -1,5 +1,5 @@
-//! Tests of `bh_model`: messages, fields and limits.
+//! Tests of limits, control data and sections of `bh_model`.
 #![tactic(auto)]
 
 #[cfg(test)]
-mod model;
+mod values;

@@ -1,7 +1,5 @@
-//! Tests of `bh_push` and `bh_reading`: events of messages, and a check of them over ports.
+//! Tests of `bh_push`: events of messages, and what comes behind a refusal.
 #![tactic(auto)]
 
 #[cfg(test)]
 mod push;
-#[cfg(test)]
-mod reading;

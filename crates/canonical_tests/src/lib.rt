@@ -1,0 +1,5 @@
+//! Tests of `bh_canonical`: canonical texts over ports.
+#![tactic(auto)]
+
+#[cfg(test)]
+mod canonical;

@@ -1,0 +1,5 @@
+//! Tests of `h1_judge`: binary messages, judged and cleaned.
+#![tactic(auto)]
+
+#[cfg(test)]
+mod judge;

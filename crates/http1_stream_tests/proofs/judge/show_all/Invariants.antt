@@ -1,5 +1,0 @@
-use Rattle.h1_judge.specs.Views.{IsReady}
-use Rattle.http1_stream_tests.proofs.judge.show_all.Given as goal
-
-abbrev pub invariant-loop : goal.invariant-loop
-invariant-loop l = IsReady l.judged

@@ -1,5 +1,0 @@
-use Rattle.std.proofs.Common.{◌≡◌, None}
-use Rattle.writer_tests.proofs.encode.lines.Given as goal
-
-abbrev pub invariant-loop : goal.invariant-loop
-invariant-loop l = l.fields.making ≡ None
