@@ -2,10 +2,11 @@
 //!
 //! The definitions stand in `specs/`: `Integers`, `Bounds`, `Bytes`, `Messages`, `Texts`, `Sections`, `Tails`, `Spelling`,
 //! `Viable`, `Answers`, `Canonical`, `Listing`, `Reports` and `Parts`, which docs/FORMAT.md says in words; `Printed` has the words
-//! of kinds, omissions, parts and causes; `Alive` says which bytes may come next, `Pieces` and `Readings` what a reader of bytes in
-//! pieces answers, `Residuals`, `Yields`, `Items`, `Readers` and `Runs` what may still follow bytes that were read; `Laws` has the
-//! laws, and `Cases` the worked cases. The types here are those that the definitions speak of. Each function but theirs (`bytes`,
-//! `number` and `text`) is empty: its contract is a law about the definitions, or a worked case.
+//! of kinds, omissions, parts and causes; `Alive` says which bytes may come next, `Intervals` which numbers begin with some bytes,
+//! `Pieces` and `Readings` what a reader of bytes in pieces answers, `Residuals`, `Yields`, `Items`, `Readers` and `Runs` what may
+//! still follow bytes that were read; `Laws` has the laws, and `Cases` the worked cases. The types here are those that the
+//! definitions speak of. Each function but theirs (`bytes`, `number` and `text`) is empty: its contract is a law about the
+//! definitions, or a worked case.
 #![tactic(auto)]
 
 ghost use Rattle.std.specs.Prelude.{◌≡◌, ◌≤◌, length};
@@ -266,26 +267,26 @@ impl H1Why {
 /// Why a message has no HTTP/1.1 form.
 #[derive(Clone, Copy, Debug, PartialEq, Eq)]
 pub enum NoForm {
-    /// There is a pseudo-field.
+    /// A field's name has a colon: it is a pseudo-field (RFC 9292, section 3.6).
     Pseudo,
-    /// A value has a control byte.
+    /// A value that the text would have has a byte that no value of HTTP/1.1 has.
     ValueByte,
-    /// The Host lines don't fit the authority.
+    /// The `host` lines don't say what the authority says; or there is no authority, and not one line that is one.
     Host,
     /// The method is CONNECT.
     Connect,
     /// The scheme is neither `http` nor `https`.
     Scheme,
-    /// The status is 101.
+    /// An interim response has the status 101.
     Switching,
-    /// A response without a body has content or a trailer line.
+    /// A response without a body has content, or a trailer line that the text would have.
     Bodyless,
-    /// The length is no number, or stands there more than once.
+    /// A content length is no number of 1 to 18 digits, or stands there more than once.
     LengthField,
     /// The content has another length than its field says. `content` is its length where that is smaller than `field`,
     /// and `field + 1` where it is greater.
     LengthDiffers { field: u64, content: u64 },
-    /// A body of counted length has a trailer line.
+    /// A body of counted length has a trailer line that the text would have.
     TrailersCounted,
 }
 

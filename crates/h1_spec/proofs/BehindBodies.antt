@@ -6,7 +6,7 @@ use Rattle.bh_spec.specs.declared.H1Why.{H1Why}
 use Rattle.bh_spec.specs.declared.H1Why.TheVariants as why
 use Rattle.h1_spec.specs.Heads.{IsSection}
 use Rattle.h1_spec.specs.Causes.{◌when◌else◌}
-use Rattle.h1_spec.specs.declared.Framing1.TheVariants.{Counted, Chunked}
+use Rattle.h1_spec.specs.declared.Framing1.TheVariants.{Chunked}
 use Rattle.h1_spec.specs.BodyCauses.{OfTrailers, OfNextChunk, OfBody, Behind}
 use Rattle.h1_spec.specs.BodyStates.{At, in_count, to_end, in_line, in_chunk, behind_chunk, behind_cr, in_trailers, over, OfRestOfChunk, OfBehindLine, OfRest, nothing_behind}
 

@@ -1,20 +1,18 @@
 -- The marks of a body by its places are those of its structure.
-use Rattle.std.proofs.Common.{◌≡◌, ◌<◌, ◌+◌, ℕ, zero, suc, List, [], ◌∷◌, ◌++◌, length, take, All, Some, Option, refl, sym, ap, subst, ◌∙◌, arith, append_assoc, append-nil, length-append, inl, inr}
-use Rattle.std.specs.List.{concat}
+use Rattle.std.proofs.Common.{◌≡◌, ◌<◌, ◌+◌, ℕ, zero, suc, List, [], ◌∷◌, ◌++◌, length, All, Some, refl, sym, ap, subst, ◌∙◌, arith, append_assoc, append-nil, length-append, inl, inr}
 use Rattle.std.proofs.lemmas.List.Elements.{All-head, All-tail}
 use Rattle.bh_spec.specs.Bounds.{Bounds}
 use Rattle.bh_spec.specs.Messages.{Field}
-use Rattle.bh_spec.specs.Texts.{Text, bytes_of, content_in, ◌then◌, AreEach}
+use Rattle.bh_spec.specs.Texts.{Text, bytes_of, content_in, AreEach}
 use Rattle.bh_spec.proofs.Marks.{bytes_of-append, content-append}
 use Rattle.h1_spec.specs.declared.Framing1.{Framing1}
 use Rattle.h1_spec.specs.declared.Framing1.TheVariants.{Empty, Counted, Chunked, ToEnd}
 use Rattle.h1_spec.specs.Grammar.{crlf}
-use Rattle.h1_spec.specs.Heads.{IsSection}
-use Rattle.h1_spec.specs.Bodies.{IsChunkLine, IsChunk, IsTrailerSection, IsChunked, IsBody}
+use Rattle.h1_spec.specs.Bodies.{IsChunkLine, IsChunk, IsChunked, IsBody}
 use Rattle.h1_spec.specs.ChunkStates.{InLine, in_digits, line_ended, next_state, Completes}
 use Rattle.h1_spec.specs.Marks.{as_content, as_framing, IsMarkedChunk, IsMarkedChunked, IsMarkedBody}
 use Rattle.h1_spec.specs.BodyStates.{At, start, in_count, to_end, in_line, in_chunk, behind_chunk, behind_cr, in_trailers, over, BehindLine, RestOfChunk, Rest, marked}
-use Rattle.h1_spec.proofs.ChunkLines.{CompletesBehind, step_on, some_state, ends_alone, line_completes}
+use Rattle.h1_spec.proofs.ChunkLines.{step_on, some_state, ends_alone, line_completes}
 use Rattle.h1_spec.proofs.LineSteps.{at_behind_line, step_state}
 use Rattle.h1_spec.proofs.BodyMarks.{count_on, chunk_on, over_on, end_all, lf_all, end_on, line_on, line_over_on, chunk_begins_on, trailers_all, over_all, framing_bytes, content_bytes, framing_none, content_all, framing-append}
 use Rattle.h1_spec.proofs.Marking.{body_count}

@@ -1,10 +1,10 @@
 -- The text that is written for a message, with its marks.
-use Rattle.std.proofs.Common.{◌≡◌, ◌<◌, Bool, ℕ, List, [], ◌∷◌, ◌++◌, length, flat_map, All, codes, refl, sym, ap, ap₂, subst, ◌∙◌, arith, append_assoc}
+use Rattle.std.proofs.Common.{◌≡◌, ◌<◌, Bool, ℕ, List, [], ◌∷◌, ◌++◌, length, flat_map, All, codes, refl, sym, ap₂, subst, ◌∙◌, arith, append_assoc}
 use Rattle.std.proofs.lemmas.List.Elements.{All-head, All-tail, All-weaker}
 use Rattle.bh_spec.specs.Bounds.{Bounds, no_bounds}
 use Rattle.bh_spec.specs.Canonical.{cut}
 use Rattle.bh_spec.specs.Messages.{Field, Message}
-use Rattle.bh_spec.specs.Texts.{Text, bytes_of, AreEach}
+use Rattle.bh_spec.specs.Texts.{bytes_of, AreEach}
 use Rattle.bh_spec.proofs.Marks.{bytes_of-append}
 use Rattle.bh_spec.proofs.Written.{cut_pieces, cut_whole}
 use Rattle.h1_spec.specs.declared.Framing1.{Framing1}

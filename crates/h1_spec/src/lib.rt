@@ -3,9 +3,9 @@
 //! The definitions stand in `specs/`, and docs/HTTP1.md says them in words: `Grammar`, `Heads`, `Targets`, `Framing` and `Bodies`
 //! what an HTTP/1.1 text is made of, `Cleaning` what of a message is its own, `Http1` the message that a text is, `Http1Text` and
 //! `Written` the text of a message, `Marks` which bytes of a text are content, `Causes` and `BodyCauses` why bytes are no message,
-//! `Moments` and `Judging` when a message that has no text is judged, `Translation` the answers of the two translators,
-//! `ChunkStates`, `BodyStates` and `BodyCalls` where a reader stands in a body, `Laws` the laws, and `Cases` worked cases. Each
-//! function here is empty: its contract is a law, or a worked case.
+//! `Moments` and `Judging` when a message that has no text is judged, `Residuals` what is left of a kind of bytes behind some of
+//! them, `Translation` the answers of the two translators, `ChunkStates`, `BodyStates` and `BodyCalls` where a reader stands in a
+//! body, `Laws` the laws, and `Cases` worked cases. Each function here is empty: its contract is a law, or a worked case.
 #![tactic(auto)]
 
 ghost use Rattle.h1_spec.specs.Laws.{OneMessage, WithoutLimits, ReadIsValid, OneTarget, OneBody, OneHead, HeadEnds, CleanTwice};
