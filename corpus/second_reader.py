@@ -289,8 +289,8 @@ class Reader:
             raise Refused("dead", self.at, "padding")
 
 
-# What is written (FORMAT.md, The two texts, The listing; COMMAND.md, canon and show). Of a message that is refused it is what
-# goes out while the input is still coming.
+# What is written (FORMAT.md, The two texts, The listing; COMMAND.md, canon and show). Of an input that is refused it is what goes out
+# while the input is still coming: with the last byte of a trailer section all is, whatever stands behind it.
 
 
 def section_text(fields):
@@ -299,6 +299,10 @@ def section_text(fields):
 
 def chunks(content, size):
     return [content[start : start + size] for start in range(0, len(content), size)]
+
+
+def is_whole(message, is_done):
+    return is_done or message.trailers is not None
 
 
 def canonical(message, is_done):
@@ -310,9 +314,9 @@ def canonical(message, is_done):
     text += integer(message.status) if message.is_response else b"".join(integer(len(one)) + one for one in message.control)
     text += section_text(message.fields)
     for chunk in chunks(message.content, CHUNK):
-        if is_done or len(chunk) == CHUNK:
+        if is_whole(message, is_done) or len(chunk) == CHUNK:
             text += integer(len(chunk)) + chunk
-    return text + b"\0" + section_text(message.trailers or []) if is_done else text
+    return text + b"\0" + section_text(message.trailers or []) if is_whole(message, is_done) else text
 
 
 def listed(value):
@@ -338,13 +342,11 @@ def listing(message, is_done):
         lines += [b"interim %d" % status, *listed_fields(b"field", fields)]
     if message.fields is not None:
         lines += head_lines(message)
-    is_whole = is_done or message.trailers is not None
     for line in chunks(message.content, LISTED):
-        if is_whole or len(line) == LISTED:
+        if is_whole(message, is_done) or len(line) == LISTED:
             lines.append(b"content " + line.hex().encode())
-    lines += listed_fields(b"trailer", message.trailers or [])
-    if is_done:
-        lines.append(b"end")
+    if is_whole(message, is_done):
+        lines += [*listed_fields(b"trailer", message.trailers or []), b"end"]
     return b"".join(line + b"\n" for line in lines)
 
 
