@@ -1,14 +1,13 @@
 -- The canonical text of a message as a text of the grammar, with the content that is whole with each byte.
-use Rattle.std.proofs.Common.{◌≡◌, ◌≤◌, ◌<◌, ℕ, if◌then◌else◌, nat_eq, List, [], ◌∷◌, ◌++◌, length, All, flat_map, refl, ap, ap₂, ◌∙◌, arith}
+use Rattle.std.proofs.Common.{◌≡◌, ◌≤◌, ◌<◌, ℕ, if◌then◌else◌, List, [], ◌∷◌, ◌++◌, length, All, flat_map, refl, ap, ap₂, ◌∙◌, arith}
 use Rattle.std.proofs.lemmas.List.Elements.{All-head, All-tail, All-weaker}
 use Rattle.bh_spec.specs.declared.Part.TheVariants as parts
 use Rattle.bh_spec.specs.declared.Form.TheVariants.{Indeterminate}
 use Rattle.bh_spec.specs.declared.Omitted.TheVariants.{Nothing}
-use Rattle.bh_spec.specs.Parts.{number_of}
 use Rattle.bh_spec.specs.Bounds.{Bounds}
 use Rattle.bh_spec.specs.Integers.{int, least_width}
 use Rattle.bh_spec.specs.Messages.{Start, request, response, Message, IsValid, kind_of}
-use Rattle.bh_spec.specs.Texts.{Text, mark, bytes_of, content_in, IsNumber, IsRun, ◌then◌, AreEach}
+use Rattle.bh_spec.specs.Texts.{Text, mark, content_in, IsNumber, IsRun, ◌then◌, AreEach}
 use Rattle.bh_spec.specs.Sections.{IsSection}
 use Rattle.bh_spec.specs.Tails.{IsBody, IsTail}
 use Rattle.bh_spec.specs.Spelling.{IsInterimText, IsStartText, framing, Spells}

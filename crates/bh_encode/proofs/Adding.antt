@@ -2,10 +2,8 @@
 use Rattle.std.proofs.Common.{◌≡◌, ◌+◌, ℕ, List, [], ◌∷◌, ◌++◌, length, take, map, flat_map, Some, slice_get, sym, ap, ◌∙◌, append_assoc, append-nil}
 use Rattle.std.proofs.lemmas.List.{length-append}
 use Rattle.bh_spec.specs.declared.Form.TheVariants.{Known}
-use Rattle.bh_spec.specs.Integers.{int, byte_count, least_width}
 use Rattle.bh_spec.specs.Messages.{Field, Start, request, response}
 use Rattle.bh_spec.specs.Canonical.{string, line, lines, start, interim}
-use Rattle.bh_spec.proofs.Widths.{length-vi}
 use Rattle.bh_base.proofs.Putting.{take_one, text_more}
 use Rattle.bh_model.specs.declared.control_data.Control as stored
 use Rattle.bh_model.specs.declared.informational.Interim as held

@@ -1,7 +1,6 @@
 -- What a walk says of a decoder, within the limit of the input.
 use Rattle.std.proofs.Common.{◌≡◌, ◌<◌, ◌≤◌, ◌+◌, ◌-◌, ℕ, Option, Some, None, List, [], ◌∷◌, ◌++◌, length, take, drop, map, min, refl, sym, ap, subst, ◌∙◌, inl, inr, ◌⊎◌, arith}
 use Rattle.std.proofs.Math.Seq.{take-add}
-use Rattle.bh_spec.specs.declared.Form.{Form}
 use Rattle.bh_spec.specs.declared.Part.{Part}
 use Rattle.bh_spec.specs.declared.Refusal.{Refusal}
 use Rattle.bh_spec.specs.declared.Refusal.TheVariants.{Dead, Limit, TooLong}
@@ -9,21 +8,17 @@ use Rattle.bh_spec.specs.Bounds.{Bounds, no_bounds, IsWithin}
 use Rattle.bh_spec.specs.Pieces.{SomeOf, CanBecome, IsRefused}
 use Rattle.bh_spec.proofs.Residuals.{same_of}
 use Rattle.bh_spec.proofs.Within.{some_within, within_some}
-use Rattle.bh_fields.specs.Middle.{SectionView, Rest as section_rest}
 use Rattle.bh_spec.specs.Items.{Item, interim_response, head, content_byte, trailer_section, ending}
 use Rattle.bh_spec.specs.Runs.{Takes}
 use Rattle.bh_push.specs.declared.course.Course.{Course}
 use Rattle.bh_push.specs.declared.course.Stage.{Stage}
 use Rattle.bh_push.specs.declared.course.Stage.TheVariants as stages
-use Rattle.bh_push.specs.declared.body.Phase.{Phase}
-use Rattle.bh_push.specs.declared.body.Phase.TheVariants as phases
-use Rattle.bh_push.specs.Bodies.{at_of}
 use Rattle.bh_push.specs.Decoders.{At, Rest, IsBehindContent}
 use Rattle.bh_push.specs.Standing.{Comes, LinesAre, IsRight, EndsWith}
 use Rattle.bh_push.proofs.Walking.{lines_here}
 use Rattle.bh_push.proofs.Prompts.{open_prompt}
 use Rattle.std.proofs.lemmas.Bool.{cases_lt}
-use Rattle.bh_push.specs.Courses.{shown_head, shown_lines, InSection, LinesKept, Stays, Stood, IsFull, IsDeadAt, IsLimitAt, at_by, place_of, IsSection, IsOpenBy, IsOpen, Walked}
+use Rattle.bh_push.specs.Courses.{shown_head, shown_lines, InSection, LinesKept, Stays, Stood, IsFull, IsDeadAt, IsLimitAt, at_by, place_of, Walked}
 use Rattle.bh_push.specs.Hands.{kind_at, Held, IsInSection, Handed, IsLong, Keeps}
 use Rattle.bh_push.specs.Pushes.{DecoderView, RefusesBehind, Refuses, refused_at, refused_view}
 use Rattle.bh_push.specs.Kinds.{KindBehind}

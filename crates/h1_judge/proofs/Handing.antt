@@ -1,5 +1,5 @@
 -- What one push of the decoder of the binary message leads to, when it is judged.
-use Rattle.std.proofs.Common.{◌≡◌, ◌<◌, ◌≤◌, ℕ, Bool, true, false, Option, Some, None, List, not, nat_eq, nat_lt, [], ◌∷◌, ◌++◌, length, take, drop, map, ◌⊎◌, inl, refl, sym, ◌∙◌, ap, subst, arith, append-nil, length-append}
+use Rattle.std.proofs.Common.{◌≡◌, ◌<◌, ◌≤◌, ℕ, Bool, true, false, Option, Some, None, List, not, nat_eq, nat_lt, [], ◌∷◌, ◌++◌, length, take, drop, map, ◌⊎◌, inl, inr, refl, sym, ◌∙◌, ap, subst, arith, append-nil, length-append}
 use Rattle.std.proofs.lemmas.List.{map-append, take-append-drop, length-take-le}
 use Rattle.bh_spec.specs.declared.NoForm.{NoForm}
 use Rattle.bh_spec.specs.declared.NoForm.TheVariants as no
@@ -26,7 +26,7 @@ use Rattle.h1_head.specs.Room.{room_in, count_in}
 use Rattle.h1_judge.specs.declared.judged.IntoWhy.TheVariants as why
 use Rattle.h1_judge.specs.declared.judging.Judge.{Judge}
 use Rattle.h1_judge.specs.Courses.{own_fields, cleaned_item, cleaned_items, Course, behind_item, item_form}
-use Rattle.h1_judge.specs.Views.{JudgedView, rest, limits, Prompt, Moved, IsFitting, IsReady, shows, IsRefused, IsJudged, AreContent}
+use Rattle.h1_judge.specs.Views.{JudgedView, rest, limits, Prompt, StandsBehind, Moved, IsFitting, IsReady, shows, IsRefused, IsJudged, AreContent}
 use Rattle.h1_judge.specs.Judges.{course_of, view_of, HasRoom, KeepsRoom, IsCounting, IsSound, HasRoomFor, Judges, IsShort, IsLastJudged, AreCounted, Leaves, IsShown}
 use Rattle.h1_judge.specs.JudgedLaws.{cleaned-content, alive_there, judged_laws}
 
@@ -56,6 +56,17 @@ leaves_sound L j k sound same counting = record {
 cleaned_bytes : (named : List (List ℕ)) (bytes : List ℕ) → map content_byte bytes ≡ cleaned_items named (map content_byte bytes)
 cleaned_bytes named [] = refl
 cleaned_bytes named (x ∷ bytes) = ap (λ (q : List Item). content_byte x ∷ q) (cleaned_bytes named bytes)
+
+-- bytes of content end with one
+by_last : (x : ℕ) (bytes : List ℕ) → (front : List Item) × (last : ℕ) × (map content_byte (x ∷ bytes) ≡ front ++ content_byte last ∷ [])
+by_last x [] = ([], x, refl)
+by_last x (y ∷ bytes) = let h = by_last y bytes in (content_byte x ∷ h.0, h.1, ap (λ (q : List Item). content_byte x ∷ q) h.2)
+
+stands_of : (d : Counted) (event : Event) (item : Item) → binary.shows d event item → IsRightOf event d.held.decoder.at
+    → StandsBehind item d.held.decoder.at
+stands_of d (events.Interim status) item s r = subst (λ (i : Item). StandsBehind i d.held.decoder.at) (sym s.1) r
+stands_of d events.Head item s r = subst (λ (i : Item). StandsBehind i d.held.decoder.at) (sym s.2) r
+stands_of d events.Trailers item s r = subst (λ (i : Item). StandsBehind i d.held.decoder.at) (sym s.1) r
 
 right_of : (d : Counted) (event : Event) (item : Item) → binary.shows d event item → IsRightOf event d.held.decoder.at
     → IsRight (item ∷ []) d.held.decoder.at
@@ -123,10 +134,13 @@ module _ (c d : Counted) (j k : Judge) (ready : IsReady (view_of c j)) where
 
   -- ---- content
 
-  pub content_free : (piece : List ℕ) (n : ℕ) (bytes : List ℕ) → Took binary.rest binary.Moved c piece n (map content_byte bytes) d → Prompt d
-      → AreCounted j.to_head (course_of j) bytes (course_of k) → k.to_head ≡ j.to_head
+  pub content_free : (piece : List ℕ) (n : ℕ) (bytes : List ℕ) → 0 < length bytes → Took binary.rest binary.Moved c piece n (map content_byte bytes) d
+      → IsBehindContent d.held.decoder.at → Prompt d → AreCounted j.to_head (course_of j) bytes (course_of k) → k.to_head ≡ j.to_head
       → Took rest Moved v piece n (map content_byte bytes) w
-  content_free piece n bytes took prompt counted to_head =
+  content_free piece n [] some took right prompt counted to_head = absurd (omega (arith, some))
+  content_free piece n (x ∷ more) some took right prompt counted to_head =
+      let bytes : List ℕ = x ∷ more in
+      let ends = by_last x more in
       let moved : Moved v (take n piece) (map content_byte bytes) w = record {
         raw = map content_byte bytes;
         items_are = cleaned_bytes j.hops.names bytes;
@@ -135,6 +149,17 @@ module _ (c d : Counted) (j k : Judge) (ready : IsReady (view_of c j)) where
         course = counted.course;
         free = counted.free;
         prompt = prompt;
+        landed = inr (record {
+          front = ends.0;
+          last = content_byte ends.1;
+          items_are = ends.2;
+          seen = take n piece;
+          quiet = [];
+          split = sym (append-nil (take n piece));
+          state = d;
+          moved = took.moved;
+          right = right;
+        });
       } in
       record { some = took.some; inside = took.inside; moved = moved; alive = alive_there v w (take n piece) (map content_byte bytes) moved }
 
@@ -247,6 +272,17 @@ module _ (c d : Counted) (j k : Judge) (ready : IsReady (view_of c j)) where
         course = h.course refl;
         free = (sym h.answer, tt);
         prompt = prompt;
+        landed = inr (record {
+          front = [];
+          last = item;
+          items_are = refl;
+          seen = take n piece;
+          quiet = [];
+          split = sym (append-nil (take n piece));
+          state = d;
+          moved = took.moved;
+          right = stands_of d event item shown right;
+        });
       } in
       let fits : IsFitting (binary.limits d) item
       = subst (λ (L : Bounds). IsFitting L item) (sym took.moved.limits) (fitting_of (take n piece) item took.moved) in (
@@ -268,6 +304,7 @@ need_on c d j ready piece m prompt =
       course = refl;
       free = tt;
       prompt = prompt;
+      landed = inl refl;
     } in
     (moved, inl (alive_there (view_of c j) (view_of d j) piece [] moved))
 

@@ -1,14 +1,15 @@
 -- What is known of the states of the decoder that judges.
-use Rattle.std.proofs.Common.{◌≡◌, ◌+◌, ℕ, Bool, Option, None, List, [], ◌∷◌, ◌++◌, refl, sym, ◌∙◌, ap, ap₂, subst, arith, append_assoc}
+use Rattle.std.proofs.Common.{◌≡◌, ◌⊎◌, ◌+◌, ℕ, Bool, Option, None, List, [], ◌∷◌, ◌++◌, inl, inr, refl, sym, ◌∙◌, ap, ap₂, subst, arith, append_assoc, append-nil}
 use Rattle.bh_spec.specs.Bounds.{Bounds}
 use Rattle.bh_spec.specs.Texts.{Text, content_in}
 use Rattle.bh_spec.specs.Residuals.{IsResidual}
 use Rattle.bh_spec.specs.Items.{Item, interim_response, head, content_byte, trailer_section, ending}
 use Rattle.bh_stream.specs.Decoding.{content_items, IsAlive, Leads, DecoderLaws}
 use Rattle.bh_reading.specs.Readings as binary
+use Rattle.bh_reading.specs.Readings.{Counted}
 use Rattle.bh_reading.specs.ReadingLaws.{alive_behind, reading_laws}
 use Rattle.h1_judge.specs.Courses.{cleaned_item, named_behind, cleaned_items, Course, behind_item, behind, item_form, AreFree}
-use Rattle.h1_judge.specs.Views.{JudgedView, rest, limits, room, Moved, AreFitting, IsReady}
+use Rattle.h1_judge.specs.Views.{JudgedView, rest, limits, room, Landed, Moved, AreFitting, IsReady}
 
 -- ---- items, one behind the other
 
@@ -86,7 +87,37 @@ stays v r = record {
   course = refl;
   free = tt;
   prompt = r.prompt;
+  landed = inl refl;
 }
+
+-- behind the items of some bytes stand those of others, or none
+landed_on : (v w : Counted) (x y : List ℕ) (i j : List Item) → binary.Moved v x i w → (i ≡ []) ⊎ Landed v x i
+    → (j ≡ []) ⊎ Landed w y j → (i ++ j ≡ []) ⊎ Landed v (x ++ y) (i ++ j)
+landed_on v w x y i j m (inl a) (inl b) = inl (ap (λ (q : List Item). q ++ j) a ∙ b)
+landed_on v w x y i j m (inr a) (inl b) =
+    let same : i ++ j ≡ i = ap (λ (q : List Item). i ++ q) b ∙ append-nil i in
+    inr (record {
+      front = a.front;
+      last = a.last;
+      items_are = same ∙ a.items_are;
+      seen = a.seen;
+      quiet = a.quiet ++ y;
+      split = ap (λ (l : List ℕ). l ++ y) a.split ∙ append_assoc a.seen a.quiet y;
+      state = a.state;
+      moved = subst (λ (q : List Item). binary.Moved v a.seen q a.state) (sym same) a.moved;
+      right = a.right;
+    })
+landed_on v w x y i j m before (inr b) = inr (record {
+  front = i ++ b.front;
+  last = b.last;
+  items_are = ap (λ (q : List Item). i ++ q) b.items_are ∙ sym (append_assoc i b.front (b.last ∷ []));
+  seen = x ++ b.seen;
+  quiet = b.quiet;
+  split = ap (λ (l : List ℕ). x ++ l) b.split ∙ sym (append_assoc x b.seen b.quiet);
+  state = b.state;
+  moved = reading_laws.goes_on v w b.state x b.seen i j m b.moved;
+  right = b.right;
+})
 
 goes_on : (v w u : JudgedView) (x y : List ℕ) (i j : List Item) → Moved v x i w → Moved w y j u → Moved v (x ++ y) (i ++ j) u
 goes_on v w u x y i j a b =
@@ -101,6 +132,7 @@ goes_on v w u x y i j a b =
       free = free-append v.to_head v.course a.raw b.raw a.free
           (subst (λ (c : Course). AreFree v.to_head c b.raw) a.course (subst (λ (t : Bool). AreFree t w.course b.raw) a.to_head b.free));
       prompt = b.prompt;
+      landed = landed_on v.reading w.reading x y a.raw b.raw a.moved a.landed b.landed;
     }
 
 is_ready : (v w : JudgedView) (x : List ℕ) (i : List Item) → IsReady v → Moved v x i w → IsReady w

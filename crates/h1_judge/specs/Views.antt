@@ -1,5 +1,5 @@
 -- The decoder that judges, as the loop over a port sees it. It hands out the items of the cleaned message.
-use Rattle.std.specs.Prelude.{ℕ, ◌≡◌, Bool, false, Option, Some, None, List, [], ◌∷◌, ◌++◌, ◌+◌, ◌<◌, length}
+use Rattle.std.specs.Prelude.{ℕ, ◌≡◌, ◌⊎◌, Bool, false, Option, Some, None, List, [], ◌∷◌, ◌++◌, ◌+◌, ◌<◌, length}
 use Rattle.bh_spec.specs.declared.Omitted.{Omitted}
 use Rattle.bh_spec.specs.declared.Omitted.TheVariants.{Nothing}
 use Rattle.bh_spec.specs.declared.NoForm.{NoForm}
@@ -9,6 +9,7 @@ use Rattle.bh_spec.specs.Messages.{Field, Interim, AreHeaders}
 use Rattle.bh_spec.specs.Canonical.{FieldsFit}
 use Rattle.bh_spec.specs.Texts.{Text}
 use Rattle.bh_spec.specs.Items.{Item, interim_response, head, content_byte, trailer_section, ending, Head}
+use Rattle.bh_push.specs.Decoders.{At}
 use Rattle.bh_push.specs.Standing.{IsRight, IsPrompt}
 use Rattle.bh_stream.specs.Decoding.{content_items}
 use Rattle.bh_stream.specs.declared.traits.Event.{Event}
@@ -45,6 +46,26 @@ room v = binary.room v.reading
 abbrev pub Prompt : Counted → Type 0
 Prompt c = IsPrompt c.held.decoder.limits c.held.decoder.at
 
+-- the place right behind an item; no place is behind an ending
+abbrev pub StandsBehind : Item → At → Type 0
+StandsBehind (interim_response status fields) at = IsRight (interim_response status fields ∷ []) at
+StandsBehind (head of fields) at = IsRight (head of fields ∷ []) at
+StandsBehind (content_byte x) at = IsRight (content_byte x ∷ []) at
+StandsBehind (trailer_section fields) at = IsRight (trailer_section fields ∷ []) at
+StandsBehind (ending omitted padding) at = ⊥
+
+-- The first of the bytes led to the items, and right behind the last of them.
+pub record Landed (v : Counted) (bytes : List ℕ) (items : List Item) : Type 0 where
+  pub front : List Item
+  pub last : Item
+  pub items_are : items ≡ front ++ last ∷ []
+  pub seen : List ℕ
+  pub quiet : List ℕ
+  pub split : bytes ≡ seen ++ quiet
+  pub state : Counted
+  pub moved : binary.Moved v seen items state
+  pub right : StandsBehind last state.held.decoder.at
+
 -- The bytes lead the decoder of the binary message to items for which no rule holds, and these are cleaned.
 pub record Moved (v : JudgedView) (bytes : List ℕ) (items : List Item) (w : JudgedView) : Type 0 where
   pub raw : List Item
@@ -54,6 +75,7 @@ pub record Moved (v : JudgedView) (bytes : List ℕ) (items : List Item) (w : Ju
   pub course : w.course ≡ behind v.to_head v.course raw
   pub free : AreFree v.to_head v.course raw
   pub prompt : Prompt w.reading
+  pub landed : (raw ≡ []) ⊎ Landed v.reading bytes raw
 
 -- the item is one of a valid message within the limits
 abbrev pub IsFitting : Bounds → Item → Type 0

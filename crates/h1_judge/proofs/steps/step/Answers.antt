@@ -23,7 +23,7 @@ pub returns-in-None-clause-pushed : goal.returns-in-None-clause-pushed
 returns-in-None-clause-pushed c =
     let e = c.in-Content.ensures in (
       content_free c.args.reading.now c.read.new.self c.args.judge.now c.content.new.self c.requires.ready c.args.bytes.now c.in-Content.taken c.in-Content.content.now
-          e.pushed.0 (e.prompt e.pushed.0.moved.refusal) c.in-None.ensures.counts c.in-None.ensures.leaves.to_head,
+          e.pushed.1 e.pushed.0 e.right (e.prompt e.pushed.0.moved.refusal) c.in-None.ensures.counts c.in-None.ensures.leaves.to_head,
       e.pushed.1,
       e.pushed.2,
     )

@@ -1,7 +1,6 @@
-use Rattle.std.proofs.Common.{ap, ◌≡◌, ◌+◌, ◌-◌, ℕ, List, take, drop, arith, sym, subst, ◌∙◌}
+use Rattle.std.proofs.Common.{ap, ◌≡◌, ◌+◌, ◌-◌, ℕ, List, take, drop, arith, subst, ◌∙◌}
 use Rattle.bh_fields.specs.Middle.{SectionView}
 use Rattle.bh_fields.specs.Points.{point_of}
-use Rattle.bh_fields.specs.Stepping.{IsRun}
 use Rattle.bh_fields.specs.Views.{view_at}
 use Rattle.bh_fields.specs.Readers.{IsOnTheWay}
 use Rattle.bh_fields.proofs.Runs.{run_taken}
