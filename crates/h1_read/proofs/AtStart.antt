@@ -1,13 +1,14 @@
 -- At the start a reader knows the texts of HTTP/1.1.
-use Rattle.std.proofs.Common.{◌≡◌, ◌+◌, ◌-◌, ℕ, Bool, List, [], ◌++◌, length, Some, refl, sym, ◌∙◌, ap, subst, subst₂, arith, append_assoc}
+use Rattle.std.proofs.Common.{◌≡◌, ◌≤◌, ◌+◌, ℕ, Bool, List, [], ◌++◌, length, Some, refl, sym, ◌∙◌, ap, subst, subst₂, arith, append_assoc}
 use Rattle.bh_spec.specs.declared.Omitted.{Omitted}
 use Rattle.bh_spec.specs.declared.Omitted.TheVariants.{Nothing}
-use Rattle.bh_spec.specs.Bounds.{Bounds, IsWithin}
+use Rattle.bh_spec.specs.Bounds.{Bounds, IsWithin, no_bounds}
 use Rattle.bh_spec.specs.Messages.{Field, Message}
 use Rattle.bh_spec.specs.Canonical.{FieldsFit}
-use Rattle.bh_spec.specs.Texts.{Text, bytes_of}
+use Rattle.bh_spec.specs.Texts.{Text, bytes_of, content_in}
 use Rattle.bh_spec.specs.Items.{Item, start_items, tail_items, items}
 use Rattle.bh_model.specs.Ranges.{AreLimits}
+use Rattle.bh_stream.specs.Decoding.{content_items}
 use Rattle.bh_stream.specs.Messages.{Spelled, items_in}
 use Rattle.bh_reading.specs.ReadingLaws.{room_at}
 use Rattle.h1_spec.specs.declared.Scheme1.{Scheme1}
@@ -18,18 +19,18 @@ use Rattle.h1_spec.specs.Cleaning.{hops, clean, clean_trailers, says_host}
 use Rattle.h1_spec.specs.Framing.{framing}
 use Rattle.h1_spec.specs.Bodies.{IsBody}
 use Rattle.h1_spec.specs.Http1.{interims_of, IsStartOf, IsHttp1}
-use Rattle.h1_spec.specs.Marks.{IsMarkedBody, IsMarked}
-use Rattle.h1_spec.specs.BodyStates.{start as body_start, Rest, marked}
+use Rattle.h1_spec.specs.Marks.{as_framing, IsMarkedBody, IsMarked, IsSomeMarked}
+use Rattle.h1_spec.specs.BodyStates.{start as body_start}
 use Rattle.h1_spec.proofs.OneMark.{heads_front}
 use Rattle.h1_spec.proofs.Reading.{start_is_last, same_parts, one_message}
 use Rattle.h1_spec.proofs.OneAnswer.{few_of}
 use Rattle.h1_spec.proofs.BodyMarks.{marked_bytes}
 use Rattle.h1_spec.proofs.BodyStarts.{starts}
 use Rattle.h1_spec.proofs.MarkedBodies.{marks_body, body_marked}
-use Rattle.h1_read.specs.Places.{Setting, Place, in_head, left_out, HeadRest, RestFrom}
-use Rattle.h1_read.specs.Readings.{View, rest, room, IsReady, IsAtStart}
+use Rattle.h1_read.specs.Places.{Setting, Place, left_out, HeadRest, RestFrom, MarkedHeads}
+use Rattle.h1_read.specs.Readings.{View, rest, room, Counts, Moved, IsReady, IsAtStart}
 use Rattle.h1_read.specs.Laws.{IsHttp1Text, KnowsHttp1, ReadyAtStart}
-use Rattle.h1_read.proofs.HeadSteps.{heads_bytes}
+use Rattle.h1_read.proofs.HeadParts.{heads_bytes}
 
 -- ---- what completes a message from its start is a message
 
@@ -166,6 +167,25 @@ rest_of_text S s t h =
       text_is = h.marked.split;
     }
 
+-- ---- whatever the limits
+
+-- A text may come at the start, whatever the limits and the scheme.
+some_heads : (to_head : Bool) (t : Text) → IsSomeMarked no_bounds to_head t → MarkedHeads to_head [] t
+some_heads to_head t h =
+    let m = h.1 in
+    let w = m.whole in
+    let f : Framing1 = framing to_head w.head in
+    record {
+      interims = interims_of h.0.start;
+      head = w.head;
+      heads = m.heads;
+      bytes = bytes_of m.body;
+      text = m.heads_are;
+      last = start_is_last m.scheme w.head h.0.start w.start;
+      text_is = m.split ∙ ap (λ (z : Text). as_framing m.heads ++ z)
+          (sym (body_marked no_bounds f h.0.content w.trailers m.body (text_body no_bounds to_head h.0 t m) m.marked));
+    }
+
 -- ---- texts of the same bytes
 
 items_same : (a b : Spelled) → a.message ≡ b.message → a.omitted ≡ b.omitted → a.padding ≡ b.padding → items_in a ≡ items_in b
@@ -228,6 +248,13 @@ module _ (L : Bounds) (scheme : Scheme1) (to_head : Bool) (v : View) (limits : A
 
   limit_there : L.input ≡ Some (room v)
   limit_there = ap (λ (K : Bounds). K.input) limits.same ∙ ap Some (sym room_is)
+
+  -- what a text without limits counts in a front of the bytes, the items count
+  pub few_from_start : (w : View) (bytes : List ℕ) (i : List Item) → Moved v bytes i w → (front back : Text) (more : List ℕ)
+      → IsSomeMarked no_bounds to_head (front ++ back) → bytes ≡ bytes_of front ++ more → content_in front ≤ content_items i
+  few_from_start w bytes i m front back more h e =
+      let counts = subst₂ (λ (A : Setting) (p : Place). Counts A.to_head p bytes i w.place) start.setting start.place m.goes.counts in
+      counts.few front back more (some_heads to_head (front ++ back) h) e
 
 pub ready_at_start : ReadyAtStart
 ready_at_start L scheme to_head v limits start = is_ready_there L scheme to_head v limits start

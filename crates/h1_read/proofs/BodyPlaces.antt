@@ -1,6 +1,6 @@
 -- Bodies in pieces, as places of a reader; and behind a whole message.
 use Rattle.std.proofs.lemmas.Bool.{false≢true}
-use Rattle.std.proofs.Common.{◌==◌, ◌≡◌, ◌⊎◌, ◌<◌, ◌≤◌, ◌+◌, ◌-◌, arith, ℕ, zero, suc, Bool, true, false, cond, List, [], ◌∷◌, ◌++◌, map, length, take, drop, Some, refl, sym, ap, subst, ◌∙◌, append_assoc, append-nil, inl, inr}
+use Rattle.std.proofs.Common.{◌==◌, ◌≡◌, ◌<◌, ◌≤◌, ◌+◌, ◌-◌, arith, ℕ, Bool, false, cond, List, [], ◌∷◌, ◌++◌, map, length, take, Some, refl, sym, ap, subst, ◌∙◌, append_assoc, append-nil, inl, inr}
 use Rattle.std.proofs.lemmas.List.{map-append}
 use Rattle.std.proofs.lemmas.List.Elements.{All-nil}
 use Rattle.bh_spec.specs.declared.H1Why.{H1Why}
@@ -16,20 +16,19 @@ use Rattle.bh_spec.specs.Residuals.{HasRest}
 use Rattle.bh_spec.proofs.Marks.{bytes_of-append, content-append}
 use Rattle.bh_push.proofs.Contents.{bytes_behind, bytes_joined}
 use Rattle.bh_stream.specs.Decoding.{IsSilent}
-use Rattle.bh_stream.proofs.Moving.{shorter, bytes-length}
+use Rattle.bh_stream.proofs.Moving.{shorter, bytes-length, items-map}
 use Rattle.h1_spec.specs.Cleaning.{clean_trailers}
-use Rattle.h1_spec.specs.Translation.{OfExtra, OfEnd}
-use Rattle.h1_spec.specs.BodyStates.{At, in_count, to_end, over, is_chunked, trailers_of, Rest, Found, OfRest, nothing_behind, marked, AreMarked, Moves, IsRefusedFrom}
+use Rattle.h1_spec.specs.Translation.{OfEnd}
+use Rattle.h1_spec.specs.BodyStates.{At, in_count, over, Rest, Found, OfRest, marked, AreMarked, Moves, IsRefusedFrom}
 use Rattle.h1_spec.proofs.BodyMarks.{marked_bytes, marked_front}
 use Rattle.h1_spec.proofs.BehindBodies.{rest_lifted}
 use Rattle.h1_body.specs.Trailers.{IsEnded}
 use Rattle.h1_read.specs.Places.{Setting, Place, in_body, behind_trailers, left_out, BodyRest, RestFrom}
-use Rattle.h1_read.specs.Wrong.{WrongFrom}
 use Rattle.h1_read.specs.Readings.{Goes}
 use Rattle.h1_read.specs.ReadingLaws.{goes_here}
-use Rattle.h1_read.specs.HeadJudges.{JudgeView}
 use Rattle.h1_read.specs.Readers.{NeedsAt, RefusedAt, IsOver}
 use Rattle.h1_read.proofs.Completing.{nothing_fits}
+use Rattle.h1_read.proofs.Counts.{body_counts, trailers_counts}
 
 -- ---- content
 
@@ -48,6 +47,7 @@ pub body_goes : (S : Setting) (named : List (List ℕ)) (at w : At) (x content :
 body_goes S named at w x content m are = record {
   residual = record { text = m.marks.text; same = m.marks.same; forth = forth; back = back };
   wrong = m.ends named;
+  counts = body_counts S.to_head named at w x content m.marks (map content_byte content) (items-map content);
 }
   where
     left : left_out at ≡ left_out w
@@ -121,6 +121,7 @@ pub trailers_goes : (S : Setting) (named : List (List ℕ)) (at : At) (x : List 
 trailers_goes S named at x lines m fits = record {
   residual = record { text = m.marks.text; same = m.marks.same; forth = forth; back = back };
   wrong = λ more c h. m.ends named more c (inr (λ no. no fits, h));
+  counts = trailers_counts S.to_head named at x lines (trailer_section (clean_trailers named lines) ∷ []) m.marks;
 }
   where
     left : left_out at ≡ Nothing

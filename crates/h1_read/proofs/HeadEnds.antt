@@ -1,5 +1,5 @@
 -- Behind a whole head: of an informational response, or of the message.
-use Rattle.std.proofs.Common.{◌≡◌, ◌⊎◌, ◌<◌, ◌≤◌, ◌+◌, arith, ℕ, zero, suc, Bool, false, List, [], ◌∷◌, ◌++◌, length, take, drop, All, codes, refl, sym, ap, subst, ◌∙◌, append_assoc, append-nil, inl, inr}
+use Rattle.std.proofs.Common.{◌≡◌, ◌<◌, ◌≤◌, ◌+◌, arith, ℕ, zero, suc, Bool, false, List, [], ◌∷◌, ◌++◌, length, take, drop, refl, sym, ap, subst, ◌∙◌, append_assoc, inl, inr}
 use Rattle.std.proofs.lemmas.List.{append_cancel_right, length-append}
 use Rattle.std.proofs.lemmas.List.Elements.{All-nil, All-cons, All-tail}
 use Rattle.std.proofs.Math.Seq.{take-append_seam}
@@ -14,9 +14,9 @@ use Rattle.bh_spec.specs.Residuals.{HasRest}
 use Rattle.bh_spec.proofs.Within.{within_less}
 use Rattle.h1_spec.specs.declared.Scheme1.{Scheme1}
 use Rattle.h1_spec.specs.declared.Framing1.{Framing1}
-use Rattle.h1_spec.specs.Heads.{StartLine, request_line, status_line, Head, IsHead, EndsAt}
+use Rattle.h1_spec.specs.Heads.{StartLine, request_line, status_line, Head}
 use Rattle.h1_spec.specs.Cleaning.{hops, clean, says_host}
-use Rattle.h1_spec.specs.Framing.{IsCoded, IsCounted, framing}
+use Rattle.h1_spec.specs.Framing.{framing}
 use Rattle.h1_spec.specs.Http1.{IsHeadWithin, IsInterimHead, interims_of, IsStartOf, start_of}
 use Rattle.h1_spec.specs.Marks.{as_framing}
 use Rattle.h1_spec.specs.Causes.{◌when◌else◌}
@@ -34,7 +34,9 @@ use Rattle.h1_read.specs.Wrong.{OfHeads}
 use Rattle.h1_read.specs.Readings.{Goes}
 use Rattle.h1_read.specs.HeadJudges.{JudgeView, IsFinal}
 use Rattle.h1_read.specs.Readers.{setting_in}
-use Rattle.h1_read.proofs.HeadSteps.{heads_bytes, nil_front, first_part, framing_split, dummies, many_dummies, of_next}
+use Rattle.h1_read.proofs.HeadParts.{heads_bytes, nil_front, first_part, framing_split}
+use Rattle.h1_read.proofs.HeadSteps.{dummies, many_dummies, of_next}
+use Rattle.h1_read.proofs.Counts.{interim_counts, final_counts}
 
 -- ---- of the heads before the next one only the number counts
 
@@ -199,6 +201,7 @@ module _ (S : Setting) (n : ℕ) (seen x : List ℕ) (i : Interim) (read : IsInt
   interim_goes = subst (λ (k : ℕ). Goes S (in_head n seen) x (interim_response i.status i.fields ∷ []) (in_head k [])) (omega arith) (record {
     residual = record { text = as_framing x; same = framing_bytes x; forth = interim_forth; back = interim_back };
     wrong = interim_causes;
+    counts = interim_counts S.limits S.to_head n seen x (interim_response i.status i.fields ∷ []) i (suc n) read;
   })
 
 -- ---- the head of the message
@@ -342,4 +345,6 @@ module _ (v w : JudgeView) (n : ℕ) (seen x : List ℕ) (body : Framing1) (read
   final_goes = record {
     residual = record { text = as_framing x; same = framing_bytes x; forth = final_forth; back = final_back };
     wrong = final_causes;
+    counts = final_counts v.limits v.to_head n seen x (head read.says.of w.lines ∷ []) read.head body w.named read.text.1
+        (start_is_last v.scheme read.head (start_of read.says.of) read.says.start) read.says.body_is;
   }

@@ -1,11 +1,11 @@
 -- Heads in pieces, as places of a reader: in a head, behind one of an informational response, and behind one that is wrong.
-use Rattle.std.proofs.Common.{◌≡◌, ◌⊎◌, ◌<◌, ◌≤◌, ◌+◌, ◌-◌, arith, ℕ, zero, suc, List, [], ◌∷◌, ◌++◌, length, take, drop, Some, refl, sym, ap, subst, ◌∙◌, append_assoc, append-nil, inl, inr}
+use Rattle.std.proofs.Common.{◌≡◌, ◌<◌, ◌≤◌, ◌+◌, ◌-◌, arith, ℕ, zero, suc, List, [], ◌∷◌, ◌++◌, length, take, drop, Some, refl, sym, ap, subst, ◌∙◌, append_assoc, inl, inr}
 use Rattle.std.proofs.lemmas.Bool.{cases_lt}
 use Rattle.std.proofs.lemmas.List.{length-append, length-take, length-take-le, take-take, take-append-le, take-append-drop}
 use Rattle.std.proofs.Math.Seq.{take-append-add, take-append_seam}
 use Rattle.bh_spec.specs.declared.H1Why.{H1Why}
 use Rattle.bh_spec.specs.declared.H1Why.TheVariants as why
-use Rattle.bh_spec.specs.Bounds.{Bounds, IsWithin}
+use Rattle.bh_spec.specs.Bounds.{IsWithin}
 use Rattle.bh_spec.specs.Messages.{Interim}
 use Rattle.bh_spec.specs.Texts.{Text, bytes_of, content_in, ◌then◌, AreEach}
 use Rattle.bh_spec.specs.Items.{Item}
@@ -13,43 +13,21 @@ use Rattle.bh_spec.specs.Residuals.{HasRest}
 use Rattle.bh_spec.proofs.Marks.{bytes_of-append, content-append}
 use Rattle.bh_stream.specs.Decoding.{IsSilent}
 use Rattle.bh_stream.proofs.Moving.{shorter, bytes-length}
-use Rattle.h1_spec.specs.Heads.{Head, EndsBlank, EndsAt, HoldsNoEnd}
+use Rattle.h1_spec.specs.Heads.{EndsBlank, EndsAt, HoldsNoEnd}
 use Rattle.h1_spec.specs.Http1.{IsHeadWithin, IsInterimHead, interims_of}
 use Rattle.h1_spec.specs.Marks.{as_framing}
-use Rattle.h1_spec.specs.Causes.{OfSection}
 use Rattle.h1_spec.specs.Translation.{OfWholeHead, OfHead}
-use Rattle.h1_spec.proofs.Ends.{head_ends}
-use Rattle.h1_spec.proofs.Causes.{drop_seam}
-use Rattle.h1_spec.proofs.BodyMarks.{framing_bytes, framing_none, framing-append}
+use Rattle.h1_spec.proofs.BodyMarks.{framing_bytes, framing_none}
 use Rattle.h1_spec.proofs.TrailerEnds.{ends_later, none_front, none_before, ends_longer}
 use Rattle.h1_head.specs.Ends.{ReaderView, IsOpen, IsWhole as IsWholeHead, IsPast}
 use Rattle.h1_read.specs.Places.{Setting, in_head, HeadRest, RestFrom}
 use Rattle.h1_read.specs.Wrong.{OfHeads, WrongFrom}
 use Rattle.h1_read.specs.Readings.{Goes}
 use Rattle.h1_read.specs.Readers.{NeedsAt, RefusedAt}
-
-pub heads_bytes : (heads : List ℕ) (body u : Text) → u ≡ as_framing heads ++ body → bytes_of u ≡ heads ++ bytes_of body
-heads_bytes heads body u e = ap bytes_of e ∙ bytes_of-append (as_framing heads) body ∙ ap (λ (l : List ℕ). l ++ bytes_of body) (framing_bytes heads)
+use Rattle.h1_read.proofs.HeadParts.{heads_bytes, some_end, framing_split}
+use Rattle.h1_read.proofs.Counts.{head_counts}
 
 -- ---- where the first head ends
-
-pub nil_front : (x a b : List ℕ) → a ≡ [] → x ≡ a ++ b → b ≡ x
-nil_front x a b n e = sym (e ∙ ap (λ (z : List ℕ). z ++ b) n)
-
-pub first_part : (x a b p q : List ℕ) → x ≡ a ++ b → a ≡ p ++ q → x ≡ p ++ (q ++ b)
-first_part x a b p q e f = e ∙ ap (λ (z : List ℕ). z ++ b) f ∙ append_assoc p q b
-
-some_end : (L : Bounds) (is : List Interim) (head : Head) (bytes : List ℕ) → (AreEach (IsInterimHead L) is then IsHeadWithin L head) bytes
-    → (many : ℕ) × EndsAt bytes many
-some_end L [] head bytes h =
-    (length h.1, subst (λ (z : List ℕ). EndsAt z (length h.1)) (append-nil h.1 ∙ nil_front bytes h.0 h.1 h.2 h.4) (head_ends head h.1 [] h.3.1))
-some_end L (i ∷ is) head bytes h =
-    let first = h.2 in
-    let interim = first.2 in (
-      length first.0,
-      subst (λ (z : List ℕ). EndsAt z (length first.0)) (sym (first_part bytes h.0 h.1 first.0 first.1 h.4 first.4))
-          (head_ends interim.head first.0 (first.1 ++ h.1) interim.text.1),
-    )
 
 -- bytes that hold no end yet are some of the heads'
 in_heads : (seen heads b x more : List ℕ) (many : ℕ) → heads ++ b ≡ x ++ more → HoldsNoEnd (seen ++ x) → EndsAt (seen ++ heads) many → length x ≤ length heads
@@ -87,14 +65,12 @@ reheaded S n seen q u h other heads e = record {
   text_is = refl;
 }
 
-pub framing_split : (x y : List ℕ) (body : Text) → as_framing (x ++ y) ++ body ≡ as_framing x ++ (as_framing y ++ body)
-framing_split x y body = ap (λ (t : Text). t ++ body) (framing-append x y) ∙ append_assoc (as_framing x) (as_framing y) body
-
 -- where no head is over, nothing is handed out
 pub head_goes : (S : Setting) (n : ℕ) (seen x : List ℕ) → HoldsNoEnd (seen ++ x) → Goes S (in_head n seen) x [] (in_head n (seen ++ x))
 head_goes S n seen x none = record {
   residual = record { text = as_framing x; same = framing_bytes x; forth = forth; back = back };
   wrong = λ more cause h. subst (λ (z : List ℕ). OfHeads S n z cause) (append_assoc seen x more) h;
+  counts = head_counts S.to_head n seen x none;
 }
   where
     forth : (q : List Item) (u : Text) (more : List ℕ) → HeadRest S n seen q u → bytes_of u ≡ x ++ more → HasRest (λ (i : List Item). i) (HeadRest S n (seen ++ x)) (as_framing x) q u

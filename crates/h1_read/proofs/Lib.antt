@@ -2,6 +2,8 @@ pub mod HeadAnswers
 pub mod HeadRooms
 pub mod AtStart
 pub mod Judging
+pub mod HeadParts
+pub mod Counts
 pub mod HeadSteps
 pub mod HeadEnds
 pub mod Completing

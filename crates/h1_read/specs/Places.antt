@@ -1,16 +1,16 @@
 -- A reader of an HTTP/1.1 message in the middle of it: where it stands, and what completes the message from there. What is handed out
 -- are the items of the message that is read, whose sections are cleaned.
-use Rattle.std.specs.Prelude.{ℕ, zero, suc, ◌≡◌, ◌+◌, Bool, cond, List, [], ◌∷◌, ◌++◌, length}
+use Rattle.std.specs.Prelude.{ℕ, zero, suc, ◌≡◌, ◌≤◌, ◌+◌, Bool, cond, List, [], ◌∷◌, ◌++◌, length}
 use Rattle.bh_spec.specs.declared.Omitted.{Omitted}
 use Rattle.bh_spec.specs.declared.Omitted.TheVariants.{Nothing, Trailers}
-use Rattle.bh_spec.specs.Bounds.{Bounds, IsWithin}
+use Rattle.bh_spec.specs.Bounds.{Bounds, IsWithin, no_bounds}
 use Rattle.bh_spec.specs.Bytes.{AreBytes}
 use Rattle.bh_spec.specs.Messages.{Field, Interim, Start, response}
 use Rattle.bh_spec.specs.Canonical.{FieldsFit, StartFits}
 use Rattle.bh_spec.specs.Texts.{Text, ◌then◌, AreEach}
 use Rattle.bh_spec.specs.Items.{Item, ending, start_items, tail_items}
 use Rattle.h1_spec.specs.declared.Scheme1.{Scheme1}
-use Rattle.h1_spec.specs.Heads.{Head}
+use Rattle.h1_spec.specs.Heads.{Head, status_line}
 use Rattle.h1_spec.specs.Cleaning.{hops, clean, clean_trailers, says_host}
 use Rattle.h1_spec.specs.Framing.{IsCoded, IsCounted, framing}
 use Rattle.h1_spec.specs.Http1.{IsHeadWithin, IsInterimHead, interims_of, IsStartOf}
@@ -80,3 +80,23 @@ abbrev pub RestFrom : Setting → Place → List Item → Text → Type 0
 RestFrom S (in_head n seen) q t = HeadRest S n seen q t
 RestFrom S (in_body named at) q t = BodyRest S.limits named at q t
 RestFrom S behind_trailers q t = (q ≡ ending Nothing 0 ∷ []) × (t ≡ [])
+
+-- ---- whatever the limits
+
+-- Behind some bytes of a head: the rest of it, the heads behind it, and a body, whatever the limits and the scheme of the caller. The last
+-- head is no informational response's, and the bytes behind it are marked as it says.
+pub record MarkedHeads (to_head : Bool) (seen : List ℕ) (t : Text) : Type 0 where
+  pub interims : List Interim
+  pub head : Head
+  pub heads : List ℕ
+  pub bytes : List ℕ
+  pub text : (AreEach (IsInterimHead no_bounds) interims then IsHeadWithin no_bounds head) (seen ++ heads)
+  pub last : (status : ℕ) → head.start ≡ status_line status → status ≤ 199 → ⊥
+  pub text_is : t ≡ as_framing heads ++ marked (body_start (framing to_head head)) bytes
+
+-- What may come from a place, whatever the limits and the scheme: heads and a body; in a body any bytes, with the marks that they have
+-- there; and behind trailers nothing that is content.
+abbrev pub MayCome : Bool → Place → Text → Type 0
+MayCome to_head (in_head n seen) t = MarkedHeads to_head seen t
+MayCome to_head (in_body named at) t = (bytes : List ℕ) × (t ≡ marked at bytes)
+MayCome to_head behind_trailers t = (bytes : List ℕ) × (t ≡ as_framing bytes)

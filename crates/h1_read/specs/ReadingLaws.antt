@@ -1,15 +1,14 @@
 -- What is known of the states of a reader.
-use Rattle.std.proofs.Common.{◌≡◌, ◌+◌, ◌-◌, ℕ, List, [], ◌++◌, length, refl, sym, ◌∙◌, ap, subst, arith, append_assoc, length-append}
-use Rattle.bh_spec.specs.declared.H1Why.{H1Why}
+use Rattle.std.proofs.Common.{◌≡◌, ◌⊎◌, ◌≤◌, ℕ, Bool, List, [], ◌∷◌, ◌++◌, refl, sym, ◌∙◌, ap, subst, arith, append_assoc, append-nil, length-append, inl, inr}
 use Rattle.bh_spec.specs.Bounds.{Bounds}
 use Rattle.bh_spec.specs.Messages.{Field}
-use Rattle.bh_spec.specs.Texts.{Text, content_in}
+use Rattle.bh_spec.specs.Texts.{Text, bytes_of, content_in}
 use Rattle.bh_spec.specs.Residuals.{IsResidual}
 use Rattle.bh_spec.specs.Items.{Item, start_items}
 use Rattle.bh_spec.proofs.Marks.{content-append}
 use Rattle.bh_spec.proofs.Residuals.{residual_here, behind_items}
 use Rattle.bh_stream.specs.Decoding.{content_items, Leads, DecoderLaws}
-use Rattle.bh_stream.proofs.Moving.{items-append}
+use Rattle.bh_stream.proofs.Moving.{items-append, front_of_two}
 use Rattle.bh_reading.specs.ReadingLaws.{lines-append, kind-append, room_at}
 use Rattle.bh_reading.specs.Readings.{kind_behind}
 use Rattle.bh_reading.proofs.Judging.{start_content, tail_content}
@@ -19,14 +18,72 @@ use Rattle.h1_spec.specs.Marks.{as_framing}
 use Rattle.h1_spec.specs.BodyStates.{At, start as body_start}
 use Rattle.h1_spec.proofs.BodyMarks.{framing_none}
 use Rattle.h1_spec.proofs.MarkedBodies.{rest_content}
-use Rattle.h1_read.specs.Places.{Setting, Place, in_head, in_body, behind_trailers, left_out, BodyRest, HeadRest, RestFrom}
+use Rattle.h1_read.specs.Places.{Setting, Place, in_head, in_body, behind_trailers, left_out, BodyRest, HeadRest, RestFrom, MayCome}
 use Rattle.h1_read.specs.Wrong.{WrongFrom}
-use Rattle.h1_read.specs.Readings.{View, rest, room, Goes, Moved, IsReady}
+use Rattle.h1_read.specs.Readings.{View, rest, room, Counts, Goes, Moved, IsReady}
+
+-- ---- counts
+
+-- a text whose bytes are two lists in a row
+pub text_of_two : (t : Text) (a b : List ℕ) → bytes_of t ≡ a ++ b → (x y : Text) × (t ≡ x ++ y) × (bytes_of x ≡ a) × (bytes_of y ≡ b)
+text_of_two t [] b e = ([], t, refl, refl, e)
+text_of_two [] (k ∷ a) b e = absurd (cc)
+text_of_two (h ∷ t) (k ∷ a) b e =
+    let head : h.1 ≡ k = cc in
+    let tail : bytes_of t ≡ a ++ b = cc in
+    let r = text_of_two t a b tail in
+    (h ∷ r.0, r.1, ap (λ (l : Text). h ∷ l) r.2, (λ i. head i ∷ r.3 i), r.4)
+
+counts_here : (to_head : Bool) (p : Place) → Counts to_head p [] [] p
+counts_here to_head p = record { few = few; behind = behind }
+  where
+    few : (front back : Text) (more : List ℕ) → MayCome to_head p (front ++ back) → [] ≡ bytes_of front ++ more
+        → content_in front ≤ content_items []
+    few [] back more h e = omega arith
+    few (x ∷ front) back more h e = absurd (cc)
+
+    behind : (front back : Text) → MayCome to_head p (front ++ back) → bytes_of front ≡ [] → MayCome to_head p back
+    behind [] back h e = h
+    behind (x ∷ front) back h e = absurd (cc)
+
+-- one behind the other
+counts_behind : (to_head : Bool) (p r s : Place) (x y : List ℕ) (i j : List Item) → Counts to_head p x i r → Counts to_head r y j s
+    → Counts to_head p (x ++ y) (i ++ j) s
+counts_behind to_head p r s x y i j a b = record { few = few; behind = behind }
+  where
+    later : (front back one two : Text) → front ≡ one ++ two → MayCome to_head p (front ++ back) → MayCome to_head p (one ++ (two ++ back))
+    later front back one two e h =
+        subst (MayCome to_head p) (ap (λ (t : Text). t ++ back) e ∙ append_assoc one two back) h
+
+    few : (front back : Text) (more : List ℕ) → MayCome to_head p (front ++ back) → x ++ y ≡ bytes_of front ++ more
+        → content_in front ≤ content_items (i ++ j)
+    few front back more h e = by_case (front_of_two x y (bytes_of front) more e)
+      where
+        by_case : ((m : List ℕ) × (x ≡ bytes_of front ++ m)) ⊎ ((mid : List ℕ) × (bytes_of front ≡ x ++ mid) × (y ≡ mid ++ more))
+            → content_in front ≤ content_items (i ++ j)
+        by_case (inl c) = omega (arith, a.few front back c.0 h c.1, items-append i j)
+        by_case (inr c) =
+            let cut = text_of_two front x c.0 c.1 in
+            let here = later front back cut.0 cut.1 cut.2 h in
+            let there = a.behind cut.0 (cut.1 ++ back) here cut.3 in
+            omega (
+              arith,
+              ap content_in cut.2,
+              content-append cut.0 cut.1,
+              a.few cut.0 (cut.1 ++ back) [] here (sym cut.3 ∙ sym (append-nil (bytes_of cut.0))),
+              b.few cut.1 back more there (c.2 ∙ ap (λ (l : List ℕ). l ++ more) (sym cut.4)),
+              items-append i j,
+            )
+
+    behind : (front back : Text) → MayCome to_head p (front ++ back) → bytes_of front ≡ x ++ y → MayCome to_head s back
+    behind front back h e =
+        let cut = text_of_two front x y e in
+        b.behind cut.1 back (a.behind cut.0 (cut.1 ++ back) (later front back cut.0 cut.1 cut.2 h) cut.3) cut.4
 
 -- ---- steps
 
 pub goes_here : (S : Setting) (p : Place) → Goes S p [] [] p
-goes_here S p = record { residual = residual_here (RestFrom S p); wrong = λ more cause h. h }
+goes_here S p = record { residual = residual_here (RestFrom S p); wrong = λ more cause h. h; counts = counts_here S.to_head p }
 
 -- one behind the other
 pub goes_behind : (S : Setting) (p r s : Place) (x y : List ℕ) (i j : List Item) → Goes S p x i r → Goes S r y j s
@@ -35,6 +92,7 @@ goes_behind S p r s x y i j a b = record {
   residual = behind_items (RestFrom S p) (RestFrom S r) (RestFrom S s) x y i j a.residual b.residual;
   wrong = λ more cause h.
       subst (λ (z : List ℕ). WrongFrom S p z cause) (sym (append_assoc x y more)) (a.wrong (y ++ more) cause (b.wrong more cause h));
+  counts = counts_behind S.to_head p r s x y i j a.counts b.counts;
 }
 
 -- ---- content

@@ -8,7 +8,7 @@ use Rattle.bh_spec.specs.declared.H1Why.{H1Why}
 use Rattle.bh_spec.specs.declared.H1Why.TheVariants as why
 use Rattle.bh_spec.specs.Bounds.{Bounds}
 use Rattle.bh_spec.specs.Messages.{Field}
-use Rattle.bh_spec.specs.Texts.{Text}
+use Rattle.bh_spec.specs.Texts.{Text, bytes_of, content_in}
 use Rattle.bh_spec.specs.Residuals.{IsResidual}
 use Rattle.bh_spec.specs.Items.{Item, ending, Head}
 use Rattle.bh_stream.specs.Decoding.{content_items}
@@ -16,7 +16,7 @@ use Rattle.bh_stream.specs.declared.traits.Event.{Event}
 use Rattle.bh_reading.specs.Handing.{ShowsAs}
 use Rattle.bh_reading.specs.Readings.{within_limit, lines_in, kind_behind, count, IsInput}
 use Rattle.h1_spec.specs.declared.Scheme1.{Scheme1}
-use Rattle.h1_read.specs.Places.{Setting, Place, in_head, RestFrom}
+use Rattle.h1_read.specs.Places.{Setting, Place, in_head, RestFrom, MayCome}
 use Rattle.h1_read.specs.Wrong.{WrongFrom}
 
 -- Where a reader stands, how many bytes it took, the kind, the field lines and the content of what it handed out, whether it refused
@@ -44,11 +44,19 @@ room v = within_limit v.setting.limits.input v.taken
 
 -- ---- steps
 
--- The bytes lead from p to r, and hand out these items: what completes the message from p behind them is what completes it from r, and
--- what is wrong from r is wrong from p.
+-- A count that no limit changes. Of a text that may come from p, whatever the limits, a front with which the bytes begin has no more
+-- content than the items; and what stands behind the bytes is a text that may come from r.
+pub record Counts (to_head : Bool) (p : Place) (bytes : List ℕ) (items : List Item) (r : Place) : Type 0 where
+  pub few : (front back : Text) (more : List ℕ) → MayCome to_head p (front ++ back) → bytes ≡ bytes_of front ++ more
+      → content_in front ≤ content_items items
+  pub behind : (front back : Text) → MayCome to_head p (front ++ back) → bytes_of front ≡ bytes → MayCome to_head r back
+
+-- The bytes lead from p to r, and hand out these items: what completes the message from p behind them is what completes it from r, what
+-- is wrong from r is wrong from p, and the items count the content, also of texts beyond the limits.
 pub record Goes (S : Setting) (p : Place) (bytes : List ℕ) (items : List Item) (r : Place) : Type 0 where
   pub residual : IsResidual (RestFrom S p) bytes (λ q. items ++ q) (RestFrom S r)
   pub wrong : (more : List ℕ) (cause : H1Why) → WrongFrom S r more cause → WrongFrom S p (bytes ++ more) cause
+  pub counts : Counts S.to_head p bytes items r
 
 -- The bytes lead from v to w and hand out these items.
 pub record Moved (v : View) (bytes : List ℕ) (items : List Item) (w : View) : Type 0 where
