@@ -1,13 +1,13 @@
 -- All that is said of a translation from HTTP/1.1, by what the loop did: for a decoder that knows HTTP/1.1, and a job that owes canonical
 -- texts.
-use Rattle.std.proofs.Common.{◌≡◌, ◌≤◌, ◌<◌, ◌+◌, ◌⊎◌, arith, ℕ, zero, suc, Bool, true, List, [], ◌∷◌, ◌++◌, length, take, drop, take-append-drop, replicate, Option, Some, None, refl, sym, ap, subst, ◌∙◌, append-nil, append_assoc, length-append, inl, inr}
+use Rattle.std.proofs.Common.{◌≡◌, ◌+◌, ◌⊎◌, arith, ℕ, Bool, true, List, [], ◌∷◌, ◌++◌, length, take, drop, take-append-drop, replicate, Option, Some, refl, sym, ap, subst, ◌∙◌, append-nil, append_assoc, length-append, inl, inr}
 use Rattle.std.proofs.lemmas.List.{length-replicate}
 use Rattle.std.specs.Io.KnownBytes.{IsAtEnd}
 use Rattle.bh_spec.specs.declared.H1Why.{H1Why}
 use Rattle.bh_spec.specs.declared.H1Why.TheVariants as why
 use Rattle.bh_spec.specs.declared.Omitted.TheVariants.{Nothing}
 use Rattle.bh_spec.specs.declared.Summary.{Summary}
-use Rattle.bh_spec.specs.Bounds.{Bounds, IsWithin}
+use Rattle.bh_spec.specs.Bounds.{Bounds, IsWithin, no_bounds}
 use Rattle.bh_spec.specs.Messages.{Message}
 use Rattle.bh_spec.specs.Texts.{Text, bytes_of}
 use Rattle.bh_spec.specs.Pieces.{SomeOf}
@@ -15,10 +15,10 @@ use Rattle.bh_spec.specs.Viable.{IsMessageText}
 use Rattle.bh_spec.specs.Canonical.{canon}
 use Rattle.bh_spec.specs.Reports.{summary}
 use Rattle.bh_spec.specs.Items.{Item, ending}
-use Rattle.bh_base.specs.Steps.{Step, Entry, taken, given, met, IsQuiet, ReadFacts, WriteFacts, ReadLeaves, WriteLeaves, meanings}
+use Rattle.bh_base.specs.Steps.{Step, Entry, taken, given, met, ReadFacts, WriteFacts, ReadLeaves, WriteLeaves, meanings}
 use Rattle.bh_model.specs.Ranges.{AreLimits}
 use Rattle.bh_stream.specs.Outputs.{written}
-use Rattle.bh_stream.specs.Logs.{HasBody, IsClose, GivesFront, ReadsTo, AtEvery, KeepsUp}
+use Rattle.bh_stream.specs.Logs.{HasBody}
 use Rattle.bh_stream.specs.Messages.{Spelled, items_in}
 use Rattle.bh_stream.specs.Jobs.{Owing}
 use Rattle.bh_stream.specs.Formats.{Knows, ShowsContent, GivesAlways}
@@ -28,7 +28,7 @@ use Rattle.bh_stream.specs.Telling.{EndStops}
 use Rattle.bh_stream.specs.declared.streaming.End.{End}
 use Rattle.bh_stream.specs.declared.streaming.End.TheVariants as end
 use Rattle.bh_stream.proofs.Calls.{port_call, reads_sooner}
-use Rattle.bh_stream.proofs.Formats.{gives_always, gives_for, keeps_up, keeps_same}
+use Rattle.bh_stream.proofs.Formats.{gives_always, gives_for}
 use Rattle.bh_stream.proofs.Telling.{AreAlike, front_alike, close_alike, port_tells}
 use Rattle.h1_spec.specs.declared.Scheme1.{Scheme1}
 use Rattle.h1_spec.specs.Http1.{IsHttp1}
@@ -41,7 +41,7 @@ use Rattle.h1_read.specs.Places.{left_out}
 use Rattle.h1_read.specs.Readings.{View, rest, room, Moved, Refuses, misses, tells}
 use Rattle.h1_read.specs.ReadingLaws.{http1_reading_laws}
 use Rattle.h1_read.specs.Laws.{IsHttp1Text, IsDecidedAt, JudgesFrom}
-use Rattle.bh_translate.proofs.Schemes.{for_scheme}
+use Rattle.bh_translate.proofs.FromLag.{CountsAnyway, keeps_up_anyway}
 use Rattle.bh_translate.specs.From.{IsTextFrom, IsRead, IsBroken, FromEnds, IsRightFrom, from_end_of, FromPoint, FromFacts, from_called, from_end}
 
 -- ---- one end is right
@@ -92,7 +92,7 @@ one L scheme to_head end.WriteFault answer input out is h no_read no_write = abs
 point_alike : (L : Bounds) (scheme : Scheme1) (to_head : Bool) (xs ys : List Step) → AreAlike xs ys → FromPoint L scheme to_head xs → FromPoint L scheme to_head ys
 point_alike L scheme to_head xs ys a h = record {
   gives = front_alike xs ys a h.gives;
-  keeps_up = close_alike (IsSomeMarked L to_head) (HasBody (IsMessageText L)) 16383 xs ys a h.keeps_up;
+  keeps_up = close_alike (IsSomeMarked no_bounds to_head) (HasBody (IsMessageText L)) 16383 xs ys a h.keeps_up;
 }
 
 -- ---- what a byte decides
@@ -130,16 +130,6 @@ module _ (L : Bounds) (limits : AreLimits L) (scheme : Scheme1) (to_head : Bool)
   some_text : (t : Text) → SomeOf (IsHttp1Text L scheme to_head) t → SomeOf (IsTextFrom L scheme to_head) t
   some_text t h = let s = h.0 in (s.message, (h.1.marked, h.1.scheme_is))
 
-  -- for any scheme
-  any_text : (t : Text) → IsSomeMarked L to_head t → SomeOf (IsHttp1Text L scheme to_head) t
-  any_text t h =
-      let some = for_scheme L (subst (λ (K : Bounds). IsWithin K.part 5) (sym limits.same) (omega (arith, limits.range.part_low))) scheme to_head t h in
-      let s = spelled some.0 t some.1 in
-      (s.0, s.1)
-
-  marked_text : (t : Text) → SomeOf (IsHttp1Text L scheme to_head) t → IsSomeMarked L to_head t
-  marked_text t h = let s = h.0 in (s.message, h.1.marked)
-
   -- what was given behind a whole message is its canonical text
   is_read : (s : Summary) (steps : List Step) → IsDone rest Moved tells v owed s steps → IsRead L scheme to_head s steps
   is_read s steps h =
@@ -176,7 +166,7 @@ module _ (L : Bounds) (limits : AreLimits L) (scheme : Scheme1) (to_head : Bool)
   ends_as end.ReadFault steps h = h
   ends_as end.WriteFault steps h = h
 
-  module _ (shows : ShowsContent (IsHttp1Text L scheme to_head) items_in (HasBody (IsMessageText L)) owed)
+  module _ (nothing : owed [] ≡ []) (anyway : CountsAnyway to_head v) (shows : ShowsContent (IsHttp1Text L scheme to_head) items_in (HasBody (IsMessageText L)) owed)
       {S : Type 0} {read_step write_step : S → Step → S → Type 0} {left sent : S → Option (List ℕ)} {read_faults write_faults : S → ℕ} {ended : S → Bool} {log : S → Option (List Entry)}
       (read_law : (s t : S) (x : Step) → read_step s x t → ReadFacts left read_faults ended s x t)
       (ended_law : (s : S) → ended s ≡ true → IsAtEnd (left s))
@@ -187,7 +177,7 @@ module _ (L : Bounds) (limits : AreLimits L) (scheme : Scheme1) (to_head : Bool)
         → FromFacts L scheme to_head read_step write_step (meanings left sent read_faults write_faults) log s r t
     from_facts s t r h =
         let gives = gives_for (IsTextFrom L scheme to_head) canon spelled some_text h.steps (gives_always knows http1_reading_laws h) in
-        let keeps = keeps_same (IsSomeMarked L to_head) (SomeOf (IsHttp1Text L scheme to_head)) any_text marked_text (HasBody (IsMessageText L)) 16383 8191 h.steps (keeps_up knows http1_reading_laws (HasBody (IsMessageText L)) shows h) in
+        let keeps = keeps_up_anyway L scheme to_head v owed nothing knows shows anyway h in
         let call : PortCall L.input (GivesAlways (IsTextFrom L scheme to_head) canon L.input) (FromEnds L scheme to_head) read_step write_step h.steps s r t =
         port_call (FromEnds L scheme to_head) knows.limit_is h gives (ends_as r h.steps h.outcome) in
         record {

@@ -1,5 +1,5 @@
 -- What the decoder and the writer know at the start of a translation from HTTP/1.1.
-use Rattle.std.proofs.Common.{◌≡◌, ℕ, Bool, true, false, List, [], Option, refl, sym, ap, subst, ◌∙◌}
+use Rattle.std.proofs.Common.{◌≡◌, ℕ, Bool, true, false, List, Option, refl, sym, subst}
 use Rattle.std.specs.Io.KnownBytes.{IsAtEnd}
 use Rattle.bh_spec.specs.declared.H1Why.{H1Why}
 use Rattle.bh_spec.specs.declared.Summary.{Summary}
@@ -28,7 +28,7 @@ use Rattle.h1_spec.proofs.Valid.{read_is_valid}
 use Rattle.h1_read.specs.Readings.{View, rest, room, Moved, Refuses, misses, tells, IsAtStart}
 use Rattle.h1_read.specs.ReadingLaws.{http1_reading_laws}
 use Rattle.h1_read.specs.Laws.{IsHttp1Text}
-use Rattle.h1_read.proofs.AtStart.{left_out_is_empty, knows_http1}
+use Rattle.h1_read.proofs.AtStart.{left_out_is_empty, knows_http1, few_from_start}
 use Rattle.h1_read.proofs.Judging.{judges_as_from}
 use Rattle.bh_translate.specs.From.{FromFacts}
 use Rattle.bh_translate.proofs.FromFacts.{from_facts}
@@ -69,5 +69,5 @@ module _ (L : Bounds) (limits : AreLimits L) (scheme : Scheme1) (to_head : Bool)
       pub from_at : (w : Writing) → w ≡ before_all → (s t : S) (r : End Summary H1Why) → Streams rest room Moved Refuses tells misses true 8191 read write v (owed w) s r t
           → FromFacts L scheme to_head read write (meanings left sent read_faults write_faults) log s r t
       from_at w at s t r h =
-          from_facts L limits scheme to_head v (message_owed false) knows (judges_as_from L scheme to_head v limits start) shows read_law ended_law write_law read_leaves write_leaves s t r
+          from_facts L limits scheme to_head v (message_owed false) knows (judges_as_from L scheme to_head v limits start) refl (few_from_start L scheme to_head v limits start) shows read_law ended_law write_law read_leaves write_leaves s t r
           (subst (λ (x : Writing). Streams rest room Moved Refuses tells misses true 8191 read write v (owed x) s r t) at h)

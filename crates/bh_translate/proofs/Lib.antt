@@ -5,7 +5,7 @@ pub mod Filling
 pub mod Showing
 pub mod IntoEnding
 pub mod IntoFacts
-pub mod Schemes
+pub mod FromLag
 pub mod FromFacts
 pub mod FromStarting
 pub mod There

@@ -4,7 +4,7 @@ use Rattle.bh_spec.specs.declared.H1Why.{H1Why}
 use Rattle.bh_spec.specs.declared.H1Why.TheVariants as why
 use Rattle.bh_spec.specs.declared.Omitted.TheVariants.{Nothing}
 use Rattle.bh_spec.specs.declared.Summary.{Summary}
-use Rattle.bh_spec.specs.Bounds.{Bounds}
+use Rattle.bh_spec.specs.Bounds.{Bounds, no_bounds}
 use Rattle.bh_spec.specs.Messages.{Message}
 use Rattle.bh_spec.specs.Texts.{Text}
 use Rattle.bh_spec.specs.Viable.{IsMessageText}
@@ -53,13 +53,13 @@ FromEnds L scheme to_head end.WriteFault steps = StopsAt is_bad_write steps
 
 -- A call that translates a message: at every point of its calls what was given begins the canonical text of every message whose texts
 -- continue what was taken. The content taken is at most 16,383 bytes more than the content given: an open chunk, and one read; and
--- before each read at most 8,191 more. Content is counted in the longest front of the bytes that begins a text of a message, of
--- HTTP/1.1 in what was taken, and of Binary HTTP in what was given.
+-- before each read at most 8,191 more. Content is counted in the longest front of the bytes that begins a text of a message: of HTTP/1.1
+-- without limits in what was taken, and of Binary HTTP within the limits in what was given.
 pub record FromCall (L : Bounds) (scheme : Scheme1) (to_head : Bool) {S : Type 0} (read write : S → Step → S → Type 0) (s : S)
     (r : End Summary H1Why) (t : S) : Type 0 where
   pub steps : List Step
   pub call : PortCall L.input (GivesAlways (IsTextFrom L scheme to_head) canon L.input) (FromEnds L scheme to_head) read write steps s r t
-  pub keeps_up : KeepsUp (IsSomeMarked L to_head) (HasBody (IsMessageText L)) 16383 8191 steps
+  pub keeps_up : KeepsUp (IsSomeMarked no_bounds to_head) (HasBody (IsMessageText L)) 16383 8191 steps
 
 -- The end that is right for an input, and what was sent with it.
 abbrev pub IsRightFrom : Bounds → Scheme1 → Bool → End Summary H1Why → List ℕ → List ℕ → Type 0
@@ -86,7 +86,7 @@ FromCompletes L scheme to_head port s r t = CompletesAs (IsFromAnswer L scheme t
 -- What holds at every point of the calls, by their bytes, and so at every point of the log.
 pub record FromPoint (L : Bounds) (scheme : Scheme1) (to_head : Bool) (steps : List Step) : Type 0 where
   pub gives : GivesFront (IsTextFrom L scheme to_head) canon L.input steps
-  pub keeps_up : IsClose (IsSomeMarked L to_head) (HasBody (IsMessageText L)) 16383 steps
+  pub keeps_up : IsClose (IsSomeMarked no_bounds to_head) (HasBody (IsMessageText L)) 16383 steps
 
 abbrev pub FromLog : Bounds → Scheme1 → Bool → List Entry → Type 0
 FromLog L scheme to_head log = AtEveryEntry (FromPoint L scheme to_head) log
