@@ -1,5 +1,5 @@
 -- All that is said of a translation to HTTP/1.1, by what the loop did.
-use Rattle.std.proofs.Common.{◌≡◌, ◌⊎◌, ℕ, Bool, true, List, [], ◌++◌, length, Option, Some, None, refl, sym, ap, subst, ◌∙◌, append-nil, inl, inr}
+use Rattle.std.proofs.Common.{◌≡◌, ◌⊎◌, ◌+◌, ℕ, Bool, true, List, [], ◌++◌, length, Option, Some, None, refl, sym, ap, subst, ◌∙◌, append-nil, inl, inr}
 use Rattle.std.specs.Io.KnownBytes.{IsAtEnd}
 use Rattle.bh_spec.specs.declared.Refusal.TheVariants.{Dead, Limit, Ended, TooLong}
 use Rattle.bh_spec.specs.declared.Summary.{Summary}
@@ -8,8 +8,9 @@ use Rattle.bh_spec.specs.Reports.{summary}
 use Rattle.bh_spec.specs.Viable.{IsMessageText}
 use Rattle.bh_base.specs.Steps.{Step, Entry, taken, given, met, ReadFacts, WriteFacts, ReadLeaves, WriteLeaves, meanings}
 use Rattle.bh_model.specs.Ranges.{AreLimits}
-use Rattle.bh_stream.specs.Logs.{HasBody, GivesFront}
+use Rattle.bh_stream.specs.Logs.{HasBody, AtEvery, GivesFront}
 use Rattle.bh_stream.specs.Messages.{IsTextOf}
+use Rattle.bh_stream.specs.Points.{one_read}
 use Rattle.bh_stream.specs.Runs.{Streams}
 use Rattle.bh_stream.specs.Telling.{EndStops}
 use Rattle.bh_stream.specs.declared.streaming.End.{End}
@@ -29,10 +30,11 @@ use Rattle.h1_text.specs.Writers as writing
 use Rattle.h1_text.specs.Writers.{Writing, owes}
 use Rattle.h1_spec.specs.Http1Text.{http1}
 use Rattle.h1_spec.specs.Marks.{IsSomeMarked}
-use Rattle.bh_translate.specs.Into.{IsFormless, IntoEnds, IsRightInto, IntoPoint, into_end_of, IntoFacts, into_called, into_end}
+use Rattle.bh_translate.specs.Into.{IsFormless, IntoEnds, GivesJudged, IsRightInto, IntoPoint, into_end_of, IntoFacts, into_called, into_end}
 use Rattle.bh_translate.proofs.Starting.{knows_clean}
 use Rattle.bh_translate.proofs.Showing.{shows_so_far}
 use Rattle.bh_translate.proofs.IntoEnding.{ended_in}
+use Rattle.bh_translate.proofs.Resting.{judged_at, judged_alike}
 
 stops : (L : Bounds) (to_head : Bool) (r : End Summary IntoWhy) (steps : List Step) → IntoEnds L to_head r steps → EndStops r steps
 stops L to_head (end.Done s) steps h = h.0
@@ -84,6 +86,7 @@ one L to_head end.WriteFault answer input out is h no_read no_write = absurd (no
 point_alike : (L : Bounds) (to_head : Bool) (xs ys : List Step) → AreAlike xs ys → IntoPoint L to_head xs → IntoPoint L to_head ys
 point_alike L to_head xs ys a h = record {
   gives = front_alike xs ys a h.gives;
+  judged = judged_alike L to_head xs ys a h.judged;
   keeps_up = close_alike (IsMessageText L) (HasBody (IsSomeMarked no_bounds to_head)) 16383 xs ys a h.keeps_up;
 }
 
@@ -102,10 +105,11 @@ module _ (L : Bounds) (limits : AreLimits L) (to_head : Bool) (v : JudgedView) (
       let keeps = keeps_messages L shown 16383 8191 h.steps (keeps_so_far knows judged_laws shown (shows_so_far L limits to_head v start) h) in
       let call = port_call (IntoEnds L to_head) knows.limit_is h (gives_messages L (http1 to_head) h.steps (gives_always knows judged_laws h))
       (ended_in L limits to_head v start r h.steps h.outcome) in
+      let judged : AtEvery (GivesJudged L to_head) h.steps = λ front back e. judged_at L limits to_head v start (8191 + one_read) front (h.points front back e) in
       record {
-        call = record { steps = h.steps; call = call; keeps_up = keeps };
+        call = record { steps = h.steps; call = call; judged = judged; keeps_up = keeps };
         tells = port_tells (IsTextOf L) (http1 to_head) L.input (IsRightInto L to_head) (stops L to_head) (right L to_head) (done L to_head) read_law ended_law write_law read_leaves write_leaves s t r h.steps call
-            (IntoPoint L to_head) (point_alike L to_head) (λ front back e. record { gives = call.gives front back e; keeps_up = keeps.always front back e }) (IsIntoAnswer L to_head) into_end_of (one L to_head r);
+            (IntoPoint L to_head) (point_alike L to_head) (λ front back e. record { gives = call.gives front back e; judged = judged front back e; keeps_up = keeps.always front back e }) (IsIntoAnswer L to_head) into_end_of (one L to_head r);
       }
 
   -- the writer at the start owes the text

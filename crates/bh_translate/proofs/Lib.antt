@@ -1,9 +1,12 @@
 pub mod Left
+pub mod Near
+pub mod GoingOn
 pub mod Joining
 pub mod Starting
 pub mod Filling
 pub mod Showing
 pub mod IntoEnding
+pub mod Resting
 pub mod IntoFacts
 pub mod FromLag
 pub mod FromFacts

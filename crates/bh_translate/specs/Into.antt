@@ -1,23 +1,25 @@
 -- How a translation to HTTP/1.1 ended, by the calls of its port.
-use Rattle.std.specs.Prelude.{◌≡◌, ◌⊎◌, ℕ, Bool, true, List, ◌++◌, length, Option, Some, None}
+use Rattle.std.specs.Prelude.{◌≡◌, ◌⊎◌, ℕ, Bool, true, false, List, [], ◌∷◌, ◌++◌, length, Option, Some, None}
 use Rattle.bh_spec.specs.declared.NoForm.{NoForm}
+use Rattle.bh_spec.specs.declared.NoForm.TheVariants as no
 use Rattle.bh_spec.specs.declared.Omitted.{Omitted}
 use Rattle.bh_spec.specs.declared.Refusal.{Refusal}
 use Rattle.bh_spec.specs.declared.Refusal.TheVariants.{Dead, Limit, Ended, TooLong}
 use Rattle.bh_spec.specs.declared.Summary.{Summary}
-use Rattle.bh_spec.specs.Bounds.{Bounds, no_bounds}
+use Rattle.bh_spec.specs.Bounds.{Bounds, IsWithin, no_bounds}
 use Rattle.bh_spec.specs.Messages.{Message}
+use Rattle.bh_spec.specs.Pieces.{IsText, CanBecome}
 use Rattle.bh_spec.specs.Reports.{summary}
 use Rattle.bh_spec.specs.Viable.{IsMessageText}
 use Rattle.bh_base.specs.Steps.{Step, Entry, Meanings, taken, given, met, IsQuiet, StopsAt, is_bad_read, is_bad_write}
-use Rattle.bh_stream.specs.Logs.{HasBody, IsClose, KeepsUp, GivesFront, ReadsTo}
+use Rattle.bh_stream.specs.Logs.{Begins, HasBody, IsClose, KeepsUp, AtEvery, GivesFront, ReadsTo}
 use Rattle.bh_stream.specs.Messages.{IsTextOf, GivesFronts}
 use Rattle.bh_stream.specs.Telling.{TellsOf, CompletesAs, AtEveryEntry, PortTells, CalledSo}
 use Rattle.bh_stream.specs.Calls.{PortCall}
 use Rattle.bh_stream.specs.declared.streaming.End.{End}
 use Rattle.bh_stream.specs.declared.streaming.End.TheVariants as end
-use Rattle.h1_spec.specs.Http1Text.{http1}
-use Rattle.h1_spec.specs.Judging.{IsJudgedAt}
+use Rattle.h1_spec.specs.Http1Text.{Case, cases_of, http1}
+use Rattle.h1_spec.specs.Judging.{NoneIsJudged, IsJudgedAt}
 use Rattle.h1_spec.specs.Marks.{IsSomeMarked}
 use Rattle.h1_spec.specs.Translation.{IntoAnswer, formed, dead, formless, IsIntoAnswer}
 use Rattle.h1_judge.specs.declared.judged.IntoWhy.{IntoWhy}
@@ -60,6 +62,55 @@ IntoEnds L to_head (end.Refused (Form form)) steps = IsQuiet steps × IsFormless
 IntoEnds L to_head end.ReadFault steps = StopsAt is_bad_read steps
 IntoEnds L to_head end.WriteFault steps = StopsAt is_bad_write steps
 
+-- ---- what was given rests on bytes that were judged
+
+-- The rule speaks of the length of a counted body, which is known behind its content alone.
+abbrev pub IsOfLength : NoForm → Type 0
+IsOfLength no.Pseudo = ⊥
+IsOfLength no.ValueByte = ⊥
+IsOfLength no.Host = ⊥
+IsOfLength no.Connect = ⊥
+IsOfLength no.Scheme = ⊥
+IsOfLength no.Switching = ⊥
+IsOfLength no.Bodyless = ⊥
+IsOfLength no.LengthField = ⊥
+IsOfLength (no.LengthDiffers field content) = Unit {0}
+IsOfLength no.TrailersCounted = Unit {0}
+
+-- each rule that holds is such a one
+abbrev pub LeaveText : List Case → Type 0
+LeaveText [] = Unit {0}
+LeaveText ((form, holds) ∷ more) = ((holds ≡ false) ⊎ IsOfLength form) × LeaveText more
+
+-- The message has a text, or has one but for the length of its body.
+abbrev pub HasText : Bool → Message → Type 0
+HasText to_head m = LeaveText (cases_of to_head m)
+
+-- Of what was taken so many bytes were seen. None of them is judged, some message that has a text goes on behind them, and what was given
+-- begins the text of every message that does.
+pub record RestsOn (L : Bounds) (to_head : Bool) (seen : List ℕ) (steps : List Step) : Type 0 where
+  pub begins : Begins seen (taken steps)
+  pub within : IsWithin L.input (length seen)
+  pub unjudged : NoneIsJudged L to_head seen (length seen)
+  pub message : Message
+  pub has_text : HasText to_head message
+  pub goes_on : CanBecome (IsTextOf L message) seen
+  pub gives : (m : Message) → CanBecome (IsTextOf L m) seen → Begins (given steps) (http1 to_head m)
+
+-- The end was met: what was taken is a message that has a text, none of its bytes is judged, and what was given begins its text.
+pub record RestsOnAll (L : Bounds) (to_head : Bool) (steps : List Step) : Type 0 where
+  pub end : met steps ≡ true
+  pub within : IsWithin L.input (length (taken steps))
+  pub unjudged : NoneIsJudged L to_head (taken steps) (length (taken steps))
+  pub message : Message
+  pub has_text : HasText to_head message
+  pub whole : IsText (IsTextOf L message) (taken steps)
+  pub gives : Begins (given steps) (http1 to_head message)
+
+-- Nothing of a text is given before a byte behind which a message with a text goes on, and before that byte is judged.
+abbrev pub GivesJudged : Bounds → Bool → List Step → Type 0
+GivesJudged L to_head steps = (given steps ≡ []) ⊎ (((seen : List ℕ) × RestsOn L to_head seen steps) ⊎ RestsOnAll L to_head steps)
+
 -- A call that translates a message: at every point of its calls what was given begins the text of every message that continues what was
 -- taken, also of one without a form. The content taken is at most 16,383 bytes more than the content given: an open chunk, and one read;
 -- and before each read at most 8,191 more. Content is counted in the longest front of the bytes that begins a text of a message, of
@@ -68,6 +119,7 @@ pub record IntoCall (L : Bounds) (to_head : Bool) {S : Type 0} (read write : S �
     (t : S) : Type 0 where
   pub steps : List Step
   pub call : PortCall L.input (GivesFronts L (http1 to_head)) (IntoEnds L to_head) read write steps s r t
+  pub judged : AtEvery (GivesJudged L to_head) steps
   pub keeps_up : KeepsUp (IsMessageText L) (HasBody (IsSomeMarked no_bounds to_head)) 16383 8191 steps
 
 -- The end that is right for an input, and what was sent with it.
@@ -97,6 +149,7 @@ IntoCompletes L to_head port s r t = CompletesAs (IsIntoAnswer L to_head) into_e
 -- What holds at every point of the calls, by their bytes, and so at every point of the log.
 pub record IntoPoint (L : Bounds) (to_head : Bool) (steps : List Step) : Type 0 where
   pub gives : GivesFront (IsTextOf L) (http1 to_head) L.input steps
+  pub judged : GivesJudged L to_head steps
   pub keeps_up : IsClose (IsMessageText L) (HasBody (IsSomeMarked no_bounds to_head)) 16383 steps
 
 abbrev pub IntoLog : Bounds → Bool → List Entry → Type 0
