@@ -1,5 +1,5 @@
 -- A command that ended as a call over a port did.
-use Rattle.std.proofs.Common.{◌≡◌, ◌⊎◌, ℕ, List, [], ◌++◌, Option, Some, None, MatchOption, refl, sym, subst, ◌∙◌, ap, append-nil, inl, inr}
+use Rattle.std.proofs.Common.{◌≡◌, ℕ, List, [], Option, Some, None, MatchOption, refl, sym, subst, ◌∙◌, ap, append-nil, inl, inr}
 use Rattle.std.specs.Io.KnownBytes.{Appends}
 use Rattle.bh_base.specs.Steps.{Step, Entry, Meanings, Rose, Chain, none, next, Either, ReadLeaves, meanings}
 use Rattle.bh_spec.specs.declared.H1Why.{H1Why}

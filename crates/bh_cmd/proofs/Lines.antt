@@ -1,6 +1,5 @@
 -- A line that was written, and what it says of the sink.
-use Rattle.std.proofs.Common.{◌≡◌, ◌∙◌, ◌++◌, ℕ, List, [], Option, Result, Ok, Err, refl, sym, inl, inr, true, false}
-use Rattle.std.specs.Io.KnownBytes.{Appends}
+use Rattle.std.proofs.Common.{◌≡◌, ◌∙◌, ℕ, List, Option, Result, Ok, Err, sym, inl, inr}
 use Rattle.std.specs.List.{list_any}
 use Rattle.bh_base.specs.declared.failed.Failed.{Failed}
 use Rattle.bh_base.specs.Steps.{Step, WriteFacts, WroteAll, fails, is_bad_write}

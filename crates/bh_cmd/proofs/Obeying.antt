@@ -1,7 +1,6 @@
 -- What the words say of a run.
-use Rattle.std.proofs.Common.{◌≡◌, ◌≤◌, ◌⊎◌, ℕ, List, Option, String, Some, None, refl, subst, inl, inr, string_bytes, map, MatchOption}
+use Rattle.std.proofs.Common.{◌≡◌, ℕ, List, Option, String, Some, None, refl, subst, inl, inr, string_bytes, map}
 use Rattle.std.specs.declared.alloc.Global.{Global}
-use Rattle.bh_spec.specs.Bounds.{Bounds}
 use Rattle.bh_base.specs.Steps.{Step, Meanings, Rose, Entry}
 use Rattle.bh_words.specs.declared.commands.Command.{Command}
 use Rattle.bh_words.specs.declared.commands.Command.TheVariants.{Canon, Check, Show, FromHttp1, ToHttp1, Trial}

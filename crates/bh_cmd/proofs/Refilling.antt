@@ -1,5 +1,5 @@
 -- What a maker has to come when it has made one chunk more.
-use Rattle.std.proofs.Common.{◌≡◌, ◌∙◌, ◌≤◌, ◌<◌, ◌+◌, ◌-◌, ℕ, zero, min, Bool, true, false, List, [], ◌++◌, length, take, drop, refl, sym, ap, arith, append_assoc}
+use Rattle.std.proofs.Common.{◌≡◌, ◌∙◌, ◌≤◌, ◌<◌, ◌+◌, ◌-◌, ℕ, min, Bool, true, false, List, [], ◌++◌, length, take, drop, refl, sym, ap, arith, append_assoc}
 use Rattle.std.proofs.Math.ListN.{drop_of_length-le}
 use Rattle.std.proofs.lemmas.List.{length-take, drop-take, take-take, drop-drop, take-append-drop}
 use Rattle.std.proofs.Math.Seq.{take-append_seam}

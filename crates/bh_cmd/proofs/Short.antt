@@ -1,7 +1,8 @@
 -- The canonical text of an input within the default limits is short, so its bytes and their sum are counted exactly.
-use Rattle.std.proofs.Common.{◌≡◌, ◌≤◌, ◌<◌, ◌+◌, ◌*◌, ◌^◌, ℕ, zero, suc, List, [], ◌∷◌, ◌++◌, length, take, drop, get_or, All, ap, arith, flat_map}
-use Rattle.std.specs.List.{sum, sum_by}
-use Rattle.std.proofs.lemmas.List.{length-append, length-take, length-drop}
+use Rattle.std.proofs.Common.{◌≤◌, ◌<◌, ◌+◌, ◌*◌, ◌^◌, ℕ, List, [], ◌∷◌, ◌++◌, length, get_or, All, ap, arith, flat_map}
+use Rattle.std.specs.List.{sum, concat}
+use Rattle.std.proofs.lemmas.List.{length-append}
+use Rattle.std.proofs.lemmas.List.Elements.{All-head, All-tail, All-weaker}
 use Rattle.std.proofs.lemmas.List.Concat.{flat_map-cons, length-flat_map}
 use Rattle.std.proofs.lemmas.List.Sums.{sum_by-le}
 use Rattle.bh_spec.specs.declared.Width.{Width}
@@ -13,13 +14,14 @@ use Rattle.bh_spec.specs.Bytes.{AreBytes}
 use Rattle.bh_spec.specs.Integers.{int, vi, least_width}
 use Rattle.bh_spec.specs.Messages.{Field, Interim, Start, request, response, Message, kind_of}
 use Rattle.bh_spec.specs.Spelling.{framing}
-use Rattle.bh_spec.specs.Canonical.{string, lines, section, interim, start, cut_within, cut, spelled_content, canon, FieldsFit, StartFits, Fits}
+use Rattle.bh_spec.specs.Canonical.{string, lines, section, interim, start, cut, spelled_content, canon, FieldsFit, StartFits, Fits}
 use Rattle.bh_spec.proofs.Widths.{length-vi}
+use Rattle.bh_spec.proofs.Written.{IsPiece, cut_pieces, cut_whole}
 use Rattle.bh_spec.proofs.Fitting.{fits_where_spelled}
 use Rattle.bh_spec.proofs.Contents.{content_long}
 use Rattle.bh_canon.specs.Ends.{IsCanon}
 
-int_few : (n : ℕ) → length (int n) ≤ 8
+pub int_few : (n : ℕ) → length (int n) ≤ 8
 int_few n = by_width (least_width n)
   where
     by_width : (w : Width) → length (vi n w) ≤ 8
@@ -28,16 +30,16 @@ int_few n = by_width (least_width n)
     by_width Four = omega (arith, length-vi n Four)
     by_width Eight = omega (arith, length-vi n Eight)
 
-string_few : (bytes : List ℕ) → length (string bytes) ≤ length bytes + 8
+pub string_few : (bytes : List ℕ) → length (string bytes) ≤ length bytes + 8
 string_few bytes = omega (arith, int_few (length bytes), length-append (int (length bytes)) bytes)
 
-section_few : (fields : List Field) → FieldsFit default_bounds fields → length (section Indeterminate fields) ≤ 65544
+pub section_few : (fields : List Field) → FieldsFit default_bounds fields → length (section Indeterminate fields) ≤ 65544
 section_few fields h = omega (arith, h.total, int_few 0, length-append (lines fields) (int 0))
 
 interim_few : (i : Interim) → FieldsFit default_bounds i.fields → length (interim Indeterminate i) ≤ 65552
 interim_few i h = omega (arith, section_few i.fields h, int_few i.status, length-append (int i.status) (section Indeterminate i.fields))
 
-start_few : (a : Start) → StartFits default_bounds a → length (start Indeterminate a) ≤ 2097152
+pub start_few : (a : Start) → StartFits default_bounds a → length (start Indeterminate a) ≤ 2097152
 start_few (request c) h =
     omega (
       arith,
@@ -63,24 +65,32 @@ start_few (response is status) h =
       sum_by-le (λ (i : Interim). length (interim Indeterminate i)) 65552 is (λ k d within. interim_few (get_or is k d) (h.1 k d within)),
     )
 
-pieces_few : (turns : ℕ) (bytes : List ℕ) → length (flat_map string (cut_within turns 8192 bytes)) ≤ 9 * length bytes
-pieces_few zero bytes = omega arith
-pieces_few (suc turns) [] = omega arith
-pieces_few (suc turns) (byte ∷ rest) =
-    let front = take 8192 (byte ∷ rest) in
-    let back = drop 8192 (byte ∷ rest) in
+-- strings that aren't empty
+pub strings_few : (pieces : List (List ℕ)) → All (λ piece. 0 < length piece) pieces → length (flat_map string pieces) ≤ 9 * length (concat pieces)
+strings_few [] some = omega arith
+strings_few (piece ∷ pieces) some =
+    let first = All-head (λ (x : List ℕ). 0 < length x) piece pieces some in
+    let others = strings_few pieces (All-tail (λ (x : List ℕ). 0 < length x) piece pieces some) in
     omega (
       arith,
-      ap length (flat_map-cons string front (cut_within turns 8192 back)),
-      length-append (string front) (flat_map string (cut_within turns 8192 back)),
-      string_few front,
-      length-take 8192 (byte ∷ rest),
-      length-drop 8192 (byte ∷ rest),
-      pieces_few turns back,
+      first,
+      others,
+      string_few piece,
+      ap length (flat_map-cons string piece pieces),
+      length-append (string piece) (flat_map string pieces),
+      length-append piece (concat pieces),
     )
 
 body_few : (content : List ℕ) → length (spelled_content Indeterminate content) ≤ 9 * length content + 8
-body_few content = omega (arith, pieces_few (length content) content, int_few 0, length-append (flat_map string (cut 8192 content)) (int 0))
+body_few content =
+    let pieces = All-weaker IsPiece (λ (x : List ℕ). 0 < length x) (λ x p. p.0) (cut 8192 content) (cut_pieces (length content) content) in
+    omega (
+      arith,
+      strings_few (cut 8192 content) pieces,
+      ap length (cut_whole (length content) content (omega arith)),
+      int_few 0,
+      length-append (flat_map string (cut 8192 content)) (int 0),
+    )
 
 canon_few : (m : Message) → Fits default_bounds m → length m.content ≤ 2 ^ 40 → length (canon m) < 2 ^ 48
 canon_few m h short =

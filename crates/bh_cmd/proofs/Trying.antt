@@ -1,42 +1,38 @@
 -- A trial, and how it ended.
-use Rattle.std.proofs.Common.{◌≡◌, ◌∙◌, ◌+◌, ◌%◌, ◌^◌, ℕ, Bool, true, List, [], ◌++◌, ◌⊎◌, length, Option, Some, None, refl, sym, ap, subst, arith, append-nil, inl, inr}
+use Rattle.std.proofs.Common.{◌≡◌, ◌≤◌, ◌∙◌, ◌%◌, ◌^◌, ℕ, Bool, true, List, [], ◌++◌, length, Option, Some, None, refl, sym, ap, subst, arith, append-nil, inl, inr}
 use Rattle.std.specs.List.{sum, list_any}
 use Rattle.bh_spec.specs.declared.Summary.{Summary}
 use Rattle.bh_spec.specs.declared.Refusal.{Refusal}
 use Rattle.bh_spec.specs.Bounds.{Bounds, default_bounds}
-use Rattle.bh_spec.specs.Answers.{Answer, refused, IsAnswer}
-use Rattle.bh_model.specs.declared.causes.Cause.TheVariants.{Binary, Http1, Form}
-use Rattle.bh_base.specs.Steps.{Step, Chain, none, Either, Meanings, Rose, taken, given, met, fails, is_bad_write, WriteFacts, WriteLeaves, IsQuiet, StopsAt, Entry, meanings}
+use Rattle.bh_spec.specs.declared.Omitted.TheVariants.{Nothing}
+use Rattle.bh_spec.specs.Answers.{Answer, whole, IsAnswer}
+use Rattle.bh_base.specs.Steps.{Step, none, Meanings, Rose, taken, given, fails, is_bad_write, WriteFacts, WriteLeaves, IsQuiet, Entry, meanings}
 use Rattle.bh_base.specs.StepLaws.{stops_fails, bad_writes_fail, stayed, rose}
-use Rattle.bh_base.specs.SurePorts.{added}
 use Rattle.bh_base.specs.SureLaws.{added_is}
 use Rattle.bh_base.proofs.Chains.{write_chain, writes_leave, chain_facts}
 use Rattle.bh_text.specs.Reports.{trial_line}
 use Rattle.bh_canon.specs.declared.engine.CanonEnd.{CanonEnd}
-use Rattle.bh_spec.specs.Canonical.{canon}
 use Rattle.bh_stream.specs.declared.streaming.End.{End}
 use Rattle.bh_stream.specs.declared.streaming.End.TheVariants as end
 use Rattle.bh_canon.specs.Ends.{IsCanon, ended, end_of}
 use Rattle.bh_canon.specs.Calls.{CanonCall}
-use Rattle.bh_canon.specs.Telling.{IsTold, IsComplete}
+use Rattle.bh_canon.specs.Telling.{IsComplete}
 use Rattle.bh_cmd.specs.declared.exits.Exit.{Exit}
 use Rattle.bh_cmd.specs.declared.exits.Exit.TheVariants.{Done, Refused, Usage, ReadFault, WriteFault, NoMemory, DoorFault, ShelfFault}
 use Rattle.bh_cmd.specs.Exits.{exit_of}
-use Rattle.bh_cmd.specs.Trials.{TrialView, TrialRead, TrialWrite, trial, new_trial, trial_left, trial_ended, untold_bytes, untold_log, no_faults}
+use Rattle.bh_cmd.specs.Trials.{TrialView, TrialRead, TrialWrite, trial, trial_message, new_trial, trial_left, untold_bytes, no_faults}
 use Rattle.bh_cmd.specs.TrialLaws.{trial_read_law, trial_read_leaves, trial_write_law, trial_write_leaves, trial_at_end, trial_counted}
-use Rattle.bh_cmd.specs.Runs.{IsTrialLine, TrialOutcome, TrialCompletes, TrialRun, TrialExitFacts, Tells, IsToldLine}
+use Rattle.bh_cmd.specs.Runs.{IsTrialLine, TrialOutcome, TrialCompletes, TrialExitFacts, Tells, IsToldLine}
 use Rattle.std.proofs.Math.Nat.{mod-eq_of_lt}
 use Rattle.bh_cmd.proofs.Ended.{nothing}
 use Rattle.bh_cmd.proofs.Short.{text_few, sum_few}
+use Rattle.bh_cmd.proofs.TrialText.{trial_is_message}
 
 abbrev trial_means : Meanings TrialView
 trial_means = meanings trial_left untold_bytes no_faults no_faults
 
 -- What the engine says of its call, when its port counted what was written.
 module _ (n : ℕ) (w : TrialView) where
-  pub engine_refused : (refusal : Refusal) → IsTold default_bounds canon trial_means (new_trial n) (end.Refused refusal) w → IsAnswer default_bounds (trial n) (refused refusal)
-  engine_refused refusal told = told.right.0
-
   pub engine_completes : (r : End Summary Refusal) → IsComplete default_bounds trial_means (new_trial n) r w
       → (answer : Answer) → IsAnswer default_bounds (trial n) answer → r ≡ end_of answer (length (trial n))
   engine_completes r complete answer is = complete answer is (λ r. omega (arith, r)) (λ r. omega (arith, r))
@@ -72,10 +68,6 @@ module _ (n : ℕ) (L : Bounds) (v w : TrialView) (result : CanonEnd) (r : End S
   run_of h = subst (λ (x : End Summary Refusal). CanonCall default_bounds TrialRead TrialWrite (new_trial n) x w) is
       (subst (λ (x : TrialView). CanonCall default_bounds TrialRead TrialWrite x (ended result) w) begun (subst (λ (x : Bounds). CanonCall x TrialRead TrialWrite v (ended result) w) limits h))
 
-  pub told_of : IsTold L canon trial_means v (ended result) w → IsTold default_bounds canon trial_means (new_trial n) r w
-  told_of h = subst (λ (x : End Summary Refusal). IsTold default_bounds canon trial_means (new_trial n) x w) is
-      (subst (λ (x : TrialView). IsTold default_bounds canon trial_means x (ended result) w) begun (subst (λ (x : Bounds). IsTold x canon trial_means v (ended result) w) limits h))
-
   pub complete_of : IsComplete L trial_means v (ended result) w → IsComplete default_bounds trial_means (new_trial n) r w
   complete_of h = subst (λ (x : End Summary Refusal). IsComplete default_bounds trial_means (new_trial n) x w) is
       (subst (λ (x : TrialView). IsComplete default_bounds trial_means x (ended result) w) begun (subst (λ (x : Bounds). IsComplete x trial_means v (ended result) w) limits h))
@@ -87,22 +79,15 @@ module _ {S : Type 0} {write : S → Step → S → Type 0} {port : Meanings S} 
   pub not_tried : {s : S} (n : ℕ) → TrialExitFacts n write port s NoMemory s
   not_tried {s = s} n = record {
     run = record { steps = []; chain = none; same_left = refl; told = nothing (port.sent s); outcome = refl };
-    complete = λ answer is quiet. inr refl;
+    complete = λ quiet. inr refl;
     write_fault = λ e. absurd cc;
     quiet_reads = refl;
     quiet_writes = λ no. refl;
   }
 
-  pub trial_refused : {s : S} (n : ℕ) (refusal : Refusal) → IsAnswer default_bounds (trial n) (refused refusal)
-      → EndsWith n (end.Refused refusal)
-      → TrialExitFacts n write port s (Refused (Binary refusal)) s
-  trial_refused {s = s} n refusal is complete = record {
-    run = record { steps = []; chain = none; same_left = refl; told = nothing (port.sent s); outcome = (refl, is) };
-    complete = λ answer is quiet. inl (ap exit_of (complete answer is));
-    write_fault = λ e. absurd cc;
-    quiet_reads = refl;
-    quiet_writes = λ no. refl;
-  }
+-- its input is a message, so it isn't refused
+pub never_refused : (n : ℕ) → n ≤ 67108864 → (refusal : Refusal) → EndsWith n (end.Refused refusal) → ⊥
+never_refused n few refusal complete = let e = complete (whole (trial_message n) Nothing 0) (trial_is_message n few) in absurd cc
 
 module _ (n : ℕ) (summary : Summary) (line : List ℕ) where
   module _ (is_line : IsTrialLine n summary line) where
@@ -139,22 +124,23 @@ module _ (n : ℕ) (summary : Summary) (line : List ℕ) where
   good DoorFault steps h other = absurd h
   good ShelfFault steps h other = absurd h
 
-  module _ (complete : EndsWith n (end.Done summary)) where
+  module _ (few : n ≤ 67108864) (complete : EndsWith n (end.Done summary)) where
     completes : (exit : Exit) (steps : List Step) → Tells exit summary line steps → (before now : ℕ) → (exit ≡ WriteFault → Rose before now) → TrialCompletes n exit before now
-    completes (Done (Some done)) steps h before now rises answer is quiet = inl (ap (λ (one : Summary). Done (Some one)) h.0 ∙ ap exit_of (complete answer is))
-    completes WriteFault steps h before now rises answer is quiet = absurd (quiet (rises refl))
-    completes (Done None) steps h before now rises answer is quiet = absurd h
-    completes (Refused cause) steps h before now rises answer is quiet = absurd h
-    completes Usage steps h before now rises answer is quiet = absurd h
-    completes ReadFault steps h before now rises answer is quiet = absurd h
-    completes NoMemory steps h before now rises answer is quiet = absurd h
-    completes DoorFault steps h before now rises answer is quiet = absurd h
-    completes ShelfFault steps h before now rises answer is quiet = absurd h
+    completes (Done (Some done)) steps h before now rises quiet =
+        inl (ap (λ (one : Summary). Done (Some one)) h.0 ∙ ap exit_of (complete (whole (trial_message n) Nothing 0) (trial_is_message n few)))
+    completes WriteFault steps h before now rises quiet = absurd (quiet (rises refl))
+    completes (Done None) steps h before now rises quiet = absurd h
+    completes (Refused cause) steps h before now rises quiet = absurd h
+    completes Usage steps h before now rises quiet = absurd h
+    completes ReadFault steps h before now rises quiet = absurd h
+    completes NoMemory steps h before now rises quiet = absurd h
+    completes DoorFault steps h before now rises quiet = absurd h
+    completes ShelfFault steps h before now rises quiet = absurd h
 
 module _ {S : Type 0} {write : S → Step → S → Type 0} {left sent : S → Option (List ℕ)} {read_faults write_faults : S → ℕ} {ended : S → Bool} {log : S → Option (List Entry)}
     (law : (s t : S) (x : Step) → write s x t → WriteFacts sent write_faults s x t) (leaves : (s t : S) (x : Step) → write s x t → WriteLeaves left read_faults ended log s x t)
     (n : ℕ) (summary : Summary) (line : List ℕ) (is_line : IsTrialLine n summary line)
-    (complete : EndsWith n (end.Done summary)) {s t : S} where
+    (few : n ≤ 67108864) (complete : EndsWith n (end.Done summary)) {s t : S} where
   pub trial_told : (exit : Exit) → IsToldLine write summary line s exit t → TrialExitFacts n write (meanings left sent read_faults write_faults) s exit t
   trial_told exit h =
       let facts = write_chain law h.chain in
@@ -162,7 +148,7 @@ module _ {S : Type 0} {write : S → Step → S → Type 0} {left sent : S → O
       let rises : exit ≡ WriteFault → Rose (write_faults s) (write_faults t) = λ e. rose (list_any fails h.steps) (write_faults s) (write_faults t) (bad n summary line exit h.steps h.tells e) facts.counts in
       record {
         run = record { steps = h.steps; chain = h.chain; same_left = same.0; told = facts.goes; outcome = outcome n summary line is_line exit h.steps h.tells };
-        complete = completes n summary line complete exit h.steps h.tells (write_faults s) (write_faults t) rises;
+        complete = completes n summary line few complete exit h.steps h.tells (write_faults s) (write_faults t) rises;
         write_fault = rises;
         quiet_reads = same.1;
         quiet_writes = λ no. stayed (list_any fails h.steps) (write_faults s) (write_faults t) (good n summary line exit h.steps h.tells no) facts.counts;

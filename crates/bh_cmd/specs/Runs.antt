@@ -5,10 +5,8 @@ use Rattle.std.specs.Io.KnownBytes.{Appends}
 use Rattle.std.specs.declared.alloc.Global.{Global}
 use Rattle.bh_spec.specs.declared.Summary.{Summary}
 use Rattle.bh_spec.specs.Bounds.{Bounds, default_bounds}
-use Rattle.bh_spec.specs.Answers.{Answer, refused, IsAnswer}
 use Rattle.bh_model.specs.declared.causes.Cause.{Cause}
-use Rattle.bh_model.specs.declared.causes.Cause.TheVariants.{Binary, Http1, Form}
-use Rattle.bh_base.specs.Steps.{Step, Chain, Either, Entry, Meanings, Rose, given, IsQuiet, StopsAt, is_bad_write}
+use Rattle.bh_base.specs.Steps.{Step, Chain, Entry, Meanings, Rose, given, IsQuiet, StopsAt, is_bad_write}
 use Rattle.bh_listing.specs.Shown.{Shown}
 use Rattle.bh_text.specs.Reports.{trial_line}
 use Rattle.bh_spec.specs.declared.Refusal.{Refusal}
@@ -19,7 +17,7 @@ use Rattle.bh_spec.specs.Viable.{IsMessageText}
 use Rattle.bh_stream.specs.Logs.{HasBody}
 use Rattle.bh_stream.specs.Telling.{CountsBy, IsLogged}
 use Rattle.bh_stream.specs.declared.streaming.End.{End}
-use Rattle.bh_canon.specs.Ends.{IsCanon, end_of}
+use Rattle.bh_canon.specs.Ends.{IsCanon}
 use Rattle.bh_canon.specs.Calls.{CanonCall, ShowCall, SourceCheck}
 use Rattle.bh_canon.specs.Telling.{IsTold, IsComplete, KeepsLog, SourceTold, SourceCompletes}
 use Rattle.bh_words.specs.declared.commands.Command.{Command}
@@ -30,8 +28,8 @@ use Rattle.bh_words.specs.declared.commands.Command.TheVariants.{Canon, Check, S
 use Rattle.h1_spec.specs.declared.Scheme1.{Scheme1}
 use Rattle.bh_translate.specs.From.{FromCall, FromTold, FromCompletes, FromLog}
 use Rattle.bh_translate.specs.Into.{IntoCall, IntoTold, IntoCompletes, IntoLog}
-use Rattle.bh_cmd.specs.Exits.{EndsBy, EndsSo, as_binary, as_translation, as_http1, exit_of}
-use Rattle.bh_cmd.specs.Trials.{trial}
+use Rattle.bh_cmd.specs.Exits.{EndsBy, EndsSo, as_binary, as_translation, as_http1}
+use Rattle.bh_cmd.specs.Trials.{trial, trial_summary}
 
 -- the words mean the command, and they mean none
 abbrev pub Mean : List (String Global) → Command → Type 0
@@ -105,13 +103,11 @@ pub record IsTrialLine (n : ℕ) (s : Summary) (line : List ℕ) : Type 0 where
   pub canonical : IsCanon default_bounds (trial n) s text
   pub is_line : line ≡ trial_line (record { content = n; bytes_in = length (trial n); bytes_out = length text; sum = sum text })
 
--- What the writes of a trial say of how it ended. A refusal comes only where it is the answer for the input under the default limits.
+-- What the writes of a trial say of how it ended. Its input is a message, so it isn't refused.
 abbrev pub TrialOutcome : ℕ → Exit → List Step → Type 0
 TrialOutcome n (Done (Some s)) steps = IsQuiet steps × IsTrialLine n s (given steps)
 TrialOutcome n (Done None) steps = ⊥
-TrialOutcome n (Refused (Binary refusal)) steps = (steps ≡ []) × IsAnswer default_bounds (trial n) (refused refusal)
-TrialOutcome n (Refused (Http1 why)) steps = ⊥
-TrialOutcome n (Refused (Form why)) steps = ⊥
+TrialOutcome n (Refused cause) steps = ⊥
 TrialOutcome n Usage steps = ⊥
 TrialOutcome n ReadFault steps = ⊥
 TrialOutcome n WriteFault steps = StopsAt is_bad_write steps × ((s : Summary) × (unsent : List ℕ) × IsTrialLine n s (given steps ++ unsent))
@@ -119,10 +115,10 @@ TrialOutcome n NoMemory steps = steps ≡ []
 TrialOutcome n DoorFault steps = ⊥
 TrialOutcome n ShelfFault steps = ⊥
 
--- Whatever the answer for the input is, the trial ended with it where no write was counted as failed, or for want of memory.
+-- Where no write was counted as failed, the trial is done, with the summary of its message, or memory ran out.
 abbrev pub TrialCompletes : ℕ → Exit → ℕ → ℕ → Type 0
-TrialCompletes n exit writes_before writes_now = (answer : Answer) → IsAnswer default_bounds (trial n) answer
-    → (Rose writes_before writes_now → ⊥) → (exit ≡ exit_of (end_of answer (length (trial n)))) ⊎ (exit ≡ NoMemory)
+TrialCompletes n exit writes_before writes_now = (Rose writes_before writes_now → ⊥)
+    → (exit ≡ Done (Some (trial_summary n))) ⊎ (exit ≡ NoMemory)
 
 -- What a run of `trial` did: the port went through these writes, and nothing was taken from it.
 pub record TrialRun (n : ℕ) {S : Type 0} (write : S → Step → S → Type 0) (port : Meanings S) (s : S) (exit : Exit) (t : S)

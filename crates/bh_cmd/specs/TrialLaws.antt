@@ -1,5 +1,5 @@
 -- What each call of the port of `trial` does, as the traits ask it, and what any number of calls did.
-use Rattle.std.specs.Prelude.{◌≡◌, ◌<◌, ◌+◌, ◌%◌, ◌^◌, ℕ, zero, suc, Bool, true, false, List, [], ◌∷◌, ◌++◌, length}
+use Rattle.std.specs.Prelude.{◌≡◌, ◌<◌, ◌+◌, ◌%◌, ◌^◌, ℕ, zero, suc, true, List, [], ◌∷◌, ◌++◌, length}
 use Rattle.std.specs.Io.KnownBytes.{IsAtEnd}
 use Rattle.std.proofs.Common.{refl, sym, ◌∙◌, ap, arith, length-append, inl, inr}
 use Rattle.std.proofs.Math.Nat.{mod-add-mod, mod-eq_of_lt}
@@ -9,7 +9,7 @@ use Rattle.bh_spec.specs.Bytes.{AreBytes}
 use Rattle.bh_base.specs.Steps.{Step, Read, is_empty, meets_end, given, given_by, ReadFacts, WriteFacts, ReadLeaves, WriteLeaves, Chain, none, next, Either}
 use Rattle.bh_base.specs.SurePorts.{added}
 use Rattle.bh_base.specs.SureLaws.{added_joins}
-use Rattle.bh_cmd.specs.Trials.{TrialView, TrialRead, TrialWrite, after_counting, trial_left, trial_ended, untold_bytes, untold_log, no_faults}
+use Rattle.bh_cmd.specs.Trials.{TrialView, TrialRead, TrialWrite, trial_left, trial_ended, untold_bytes, untold_log, no_faults}
 
 empty_is : (xs : List ℕ) → xs ≡ [] → is_empty xs ≡ true
 empty_is xs e = ap is_empty e

@@ -4,10 +4,15 @@ use Rattle.std.specs.Fmt.{decimal}
 use Rattle.std.specs.List.{range_with_len}
 use Rattle.bh_spec.specs.declared.Form.TheVariants.{Indeterminate}
 use Rattle.bh_spec.specs.declared.Kind.TheVariants.{Request}
+use Rattle.bh_spec.specs.declared.Omitted.TheVariants.{Nothing}
+use Rattle.bh_spec.specs.Answers.{whole, IsAnswer}
+use Rattle.bh_spec.specs.Bounds.{default_bounds}
 use Rattle.bh_spec.specs.Bytes.{AreBytes}
 use Rattle.bh_spec.specs.Integers.{int}
-use Rattle.bh_spec.specs.Messages.{Field, Control, request}
+use Rattle.bh_spec.specs.Messages.{Field, Control, Message, request}
 use Rattle.bh_spec.specs.Spelling.{framing}
+use Rattle.bh_spec.specs.Reports.{summary}
+use Rattle.bh_spec.specs.declared.Summary.{Summary}
 use Rattle.bh_spec.specs.Canonical.{string, section, start}
 use Rattle.bh_base.specs.Steps.{Step, Read, Write, Entry, is_empty}
 use Rattle.bh_base.specs.SurePorts.{added}
@@ -49,6 +54,18 @@ opening n = int (framing Request Indeterminate) ++ (start Indeterminate (request
 
 abbrev pub trial : ℕ → List ℕ
 trial n = opening n ++ (chunks_from 0 0 n ++ ending)
+
+-- the message that it spells
+abbrev pub trial_message : ℕ → Message
+trial_message n = record { start = request trial_control; fields = trial_fields n; content = content_from 0 n; trailers = [] }
+
+-- its summary
+abbrev pub trial_summary : ℕ → Summary
+trial_summary n = summary (trial_message n) Nothing 0 (length (trial n))
+
+-- It is a message within the default limits, which leaves out nothing and has no padding.
+abbrev pub TrialIsMessage : Type 0
+TrialIsMessage = (n : ℕ) → n ≤ 67108864 → IsAnswer default_bounds (trial n) (whole (trial_message n) Nothing 0)
 
 -- What contracts see of the port that makes this input.
 pub record TrialView : Type 0 where

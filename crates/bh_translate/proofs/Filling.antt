@@ -1,15 +1,14 @@
 -- A message whose content goes on until it has a text: the bytes that a counted body lacks are zeros, and there are no trailers.
-use Rattle.std.proofs.Common.{◌≡◌, ◌⊎◌, ◌≤◌, ◌<◌, ◌+◌, ◌-◌, arith, ℕ, zero, suc, Bool, true, false, cond, not, nat_eq, nat_lt, List, [], ◌∷◌, ◌++◌, map, flat_map, length, All, Option, Some, None, refl, sym, ap, ap₂, subst, ◌∙◌, append_assoc, append-nil, length-append, inl, inr}
+use Rattle.std.proofs.Common.{◌≡◌, ◌≤◌, ◌<◌, ◌+◌, ◌-◌, arith, ℕ, zero, suc, Bool, false, cond, not, nat_eq, List, [], ◌∷◌, ◌++◌, map, flat_map, length, Some, None, refl, sym, ap, subst, ◌∙◌, append_assoc, append-nil, length-append, inl, inr}
 use Rattle.std.proofs.lemmas.Bool.{ltb-false, le-ltb}
 use Rattle.std.proofs.lemmas.List.{map-append}
 use Rattle.std.proofs.lemmas.List.Elements.{All-nil, All-cons, All-append}
-use Rattle.bh_spec.specs.declared.Part.TheVariants as parts
 use Rattle.bh_spec.specs.Bytes.{AreBytes}
 use Rattle.bh_spec.specs.Messages.{Field, Interim, Start, request, response, Message, IsRegularField, IsWeb, IsValid}
 use Rattle.bh_spec.specs.Texts.{Text}
-use Rattle.bh_spec.specs.Items.{Item, interim_response, head, content_byte, trailer_section, of_request, of_response, start_items}
+use Rattle.bh_spec.specs.Items.{Item, interim_response, head, content_byte, trailer_section, of_response, start_items}
 use Rattle.bh_stream.specs.Logs.{Begins}
-use Rattle.bh_stream.specs.Outputs.{Output, weighed}
+use Rattle.bh_stream.specs.Outputs.{weighed}
 use Rattle.bh_stream.proofs.Outputs.{weighed-append}
 use Rattle.h1_spec.specs.declared.Framing1.{Framing1}
 use Rattle.h1_spec.specs.declared.Framing1.TheVariants.{Empty, Counted, Chunked, ToEnd}
@@ -17,13 +16,12 @@ use Rattle.h1_spec.specs.declared.Scheme1.{Scheme1}
 use Rattle.h1_spec.specs.declared.Scheme1.TheVariants.{Http, Https}
 use Rattle.h1_spec.specs.Cleaning.{hops, clean_trailers, clean_message}
 use Rattle.h1_spec.specs.Framing.{lengths, is_bodyless}
-use Rattle.h1_spec.specs.Http1.{interims_of}
 use Rattle.h1_spec.specs.Http1Text.{Case, of_interim, of_head, of_body, no_form, framing_by, framing_written, interims_text, head_text}
 use Rattle.h1_spec.specs.Laws.{IsSchemeOf}
 use Rattle.h1_spec.specs.Marks.{as_content, as_framing, marked_body, marked_text}
-use Rattle.h1_spec.specs.Moments.{announced, of_byte, of_trailers, of_end, first_of}
+use Rattle.h1_spec.specs.Moments.{announced, of_byte, of_trailers}
 use Rattle.h1_spec.proofs.Agreeing.{written_announced, body_parts, byte_rule}
-use Rattle.h1_spec.proofs.Cases.{AreFree, free_none, none_free, free_append, free_front}
+use Rattle.h1_spec.proofs.Cases.{AreFree, free_none, none_free, free_append}
 use Rattle.h1_spec.proofs.Forth.{is_web_of}
 use Rattle.h1_spec.proofs.Kept.{lengths_kept}
 use Rattle.h1_judge.specs.Courses.{Course, start_course, AreFree as Free}

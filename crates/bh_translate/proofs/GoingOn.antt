@@ -1,22 +1,21 @@
 -- Right behind an item a message goes on with which no more rules hold, but of the length of its body.
-use Rattle.std.proofs.Common.{◌≡◌, ◌⊎◌, ◌+◌, ◌<◌, arith, ℕ, zero, suc, Bool, true, false, List, [], ◌∷◌, ◌++◌, length, map, replicate, refl, sym, ap, subst, ◌∙◌, append-nil, inl, inr}
+use Rattle.std.proofs.Common.{◌+◌, ◌<◌, arith, ℕ, zero, suc, Bool, List, [], ◌∷◌, ◌++◌, length, map, replicate, refl, sym, subst, append-nil, inl, inr}
 use Rattle.std.proofs.lemmas.List.{length-replicate}
 use Rattle.std.proofs.lemmas.List.Elements.{All-nil}
 use Rattle.bh_spec.specs.declared.Form.{Form}
 use Rattle.bh_spec.specs.declared.Form.TheVariants.{Known, Indeterminate}
-use Rattle.bh_spec.specs.declared.Omitted.{Omitted}
 use Rattle.bh_spec.specs.declared.Omitted.TheVariants.{Nothing, Trailers, Both}
 use Rattle.bh_spec.specs.declared.Part.TheVariants as parts
 use Rattle.bh_spec.specs.declared.Width.TheVariants.{One}
-use Rattle.bh_spec.specs.Bounds.{Bounds, IsWithin}
+use Rattle.bh_spec.specs.Bounds.{Bounds}
 use Rattle.bh_spec.specs.Bytes.{AreBytes}
 use Rattle.bh_spec.specs.Integers.{vi}
-use Rattle.bh_spec.specs.Messages.{Interim, IsInterim}
+use Rattle.bh_spec.specs.Messages.{IsInterim}
 use Rattle.bh_spec.specs.Texts.{Text, mark}
 use Rattle.bh_spec.specs.Items.{Item, interim_response, head, content_byte, trailer_section, ending, of_response}
 use Rattle.bh_spec.proofs.Within.{within_less, no_headers}
 use Rattle.bh_push.specs.Completing.{AfterContent, BodyRest, AfterRun}
-use Rattle.bh_push.specs.Decoders.{At, Rest, in_status, behind_head, in_length, in_content, behind_content, in_padding, IsBehindContent}
+use Rattle.bh_push.specs.Decoders.{At, Rest, in_status, IsBehindContent}
 use Rattle.bh_push.specs.Standing.{IsPrompt}
 use Rattle.bh_push.proofs.Bodies.{zeros}
 use Rattle.h1_spec.specs.declared.Framing1.{Framing1}

@@ -1,5 +1,5 @@
 -- How a translation to HTTP/1.1 ended, by what the loop did.
-use Rattle.std.proofs.Common.{◌≡◌, ◌≤◌, ◌<◌, ◌+◌, ◌-◌, ◌⊎◌, arith, ℕ, Bool, false, true, List, [], ◌∷◌, ◌++◌, flat_map, length, take, nat_eq, Option, Some, None, refl, sym, ap, ap₂, subst, ◌∙◌, append_assoc, append-nil, length-append, inl, inr}
+use Rattle.std.proofs.Common.{◌≡◌, ◌≤◌, ◌-◌, ◌⊎◌, arith, ℕ, Bool, false, true, List, [], ◌∷◌, ◌++◌, length, Option, Some, None, refl, sym, ap, ap₂, subst, ◌∙◌, append_assoc, length-append, inl, inr}
 use Rattle.bh_spec.specs.declared.NoForm.{NoForm}
 use Rattle.bh_spec.specs.declared.Omitted.{Omitted}
 use Rattle.bh_spec.specs.declared.Omitted.TheVariants.{Nothing, Trailers, Both}
@@ -10,17 +10,14 @@ use Rattle.bh_spec.specs.Bounds.{Bounds, IsWithin}
 use Rattle.bh_spec.specs.Messages.{Message}
 use Rattle.bh_spec.specs.Reports.{summary}
 use Rattle.bh_spec.specs.Items.{Item, interim_response, head, content_byte, trailer_section, ending, items}
-use Rattle.bh_spec.specs.Answers.{whole, IsAnswer}
 use Rattle.bh_spec.proofs.Whole.{one_reading}
-use Rattle.std.proofs.lemmas.Bool.{eqb-true, not-false}
-use Rattle.bh_base.specs.Steps.{Step, taken, given, met, IsQuiet}
+use Rattle.bh_base.specs.Steps.{Step, taken, met, IsQuiet}
 use Rattle.bh_model.specs.Ranges.{AreLimits}
 use Rattle.bh_push.specs.Decoders.{At, Rest as rest_at, in_framing}
 use Rattle.bh_push.specs.Standing.{Comes, IsRight, IsPrompt}
-use Rattle.bh_push.specs.Pushes.{DecoderView, start_view, RefusesFirst, MissesAs}
+use Rattle.bh_push.specs.Pushes.{DecoderView, RefusesFirst, MissesAs}
 use Rattle.bh_stream.specs.Logs.{ReadsTo}
 use Rattle.bh_stream.specs.Outputs.{written}
-use Rattle.bh_stream.specs.Decoding.{IsAlive, content_items}
 use Rattle.bh_stream.specs.Calls.{IsOfByte}
 use Rattle.bh_stream.specs.Runs.{IsDone, IsMissing, IsRefusedIn, CallEnds}
 use Rattle.bh_stream.specs.declared.streaming.End.{End}
@@ -35,27 +32,23 @@ use Rattle.bh_reading.proofs.Coming.{comes_at_start}
 use Rattle.bh_stream.proofs.Calls.{reads_sooner}
 use Rattle.h1_spec.specs.Moments as moments
 use Rattle.h1_spec.specs.Moments.{first_of}
-use Rattle.h1_spec.specs.declared.Framing1.{Framing1}
-use Rattle.h1_spec.specs.declared.Framing1.TheVariants.{Empty}
-use Rattle.h1_spec.specs.Cleaning.{hops, clean_trailers, clean_message}
-use Rattle.h1_spec.specs.Http1Text.{http1, no_form, of_head, of_body, cases_of, framing_written}
-use Rattle.h1_spec.proofs.Unjudging.{free_where_formed}
+use Rattle.h1_spec.specs.Cleaning.{clean_message}
 use Rattle.h1_spec.proofs.Members.{spelled_leaves}
 use Rattle.h1_spec.specs.Judging.{IsJudgedAt}
-use Rattle.h1_spec.specs.Translation.{formed, dead, formless, IsIntoAnswer}
-use Rattle.h1_spec.proofs.Cases.{free_none, none_free, free_back, AreFree as AreFreeCases}
-use Rattle.h1_moments.specs.Seen.{nothing_seen, moments_in}
+use Rattle.h1_spec.specs.Translation.{dead, IsIntoAnswer}
+use Rattle.h1_spec.proofs.Cases.{free_none}
+use Rattle.h1_moments.specs.Seen.{nothing_seen}
 use Rattle.h1_moments.specs.Laws.{AreFree, form_with, LeadsToLast, IsLast, HasRead, EndsAs}
 use Rattle.h1_moments.proofs.Judging.{judged_there, refused_where_free, missed_where_free, finished_where_free}
 use Rattle.h1_judge.specs.declared.judged.IntoWhy.{IntoWhy}
 use Rattle.h1_judge.specs.declared.judged.IntoWhy.TheVariants.{Binary, Form}
 use Rattle.h1_judge.specs.Courses.{cleaned_items, Course, start_course, behind, item_form, AreFree as Free}
-use Rattle.h1_judge.specs.Views.{JudgedView, Moved, rest, IsAtStart, IsJudged, AreContent, IsRefused, RefusesHere, Tells, IsEndJudged, misses}
+use Rattle.h1_judge.specs.Views.{JudgedView, Moved, rest, IsAtStart, IsJudged, AreContent, IsRefused, Tells, misses}
 use Rattle.h1_judge.specs.JudgedLaws.{cleaned-append, behind-append, free-append, judged_laws}
 use Rattle.h1_text.specs.Owed.{at_start, owed}
 use Rattle.h1_text.proofs.Comings.{one_ending}
 use Rattle.h1_text.proofs.Owes.{owes_bytes}
-use Rattle.bh_translate.specs.Into.{IsTranslated, IsRefusedBinary, IsFormless, IntoEnds}
+use Rattle.bh_translate.specs.Into.{IsRefusedBinary, IntoEnds}
 use Rattle.bh_translate.proofs.Left.{some_left}
 use Rattle.bh_translate.proofs.Starting.{items_cleaned, leaves_clean}
 use Rattle.bh_translate.proofs.Joining.{cases_in, items_free, IsThing, item_with, end_with, end_nothing}
@@ -286,7 +279,7 @@ module _ (L : Bounds) (limits : AreLimits L) (to_head : Bool) (v : JudgedView) (
   missing_in (Form form) steps quiet h =
       let e = h.missing in
       let found = ends_there h.state (taken steps) h.items h.moved e.omitted e.padding (Some form) e.whole (λ some. e.judged) (λ n. absurd (e.without n)) in
-      (quiet, inr (h.end, found.2))
+      (quiet, inr (h.end, (found.0, e.omitted, e.padding, found.2.0, found.2.1)))
 
   -- what the loop gave is the text
   done_in : (s : Summary) (steps : List Step) → IsQuiet steps → IsDone rest Moved Tells v (owed to_head at_start) s steps → IntoEnds L to_head (end.Done s) steps

@@ -1,5 +1,5 @@
 -- All that is said of a translation to HTTP/1.1, by what the loop did.
-use Rattle.std.proofs.Common.{◌≡◌, ◌⊎◌, ◌+◌, ℕ, Bool, true, List, [], ◌++◌, length, Option, Some, None, refl, sym, ap, subst, ◌∙◌, append-nil, inl, inr}
+use Rattle.std.proofs.Common.{◌≡◌, ◌+◌, ℕ, Bool, true, List, [], ◌++◌, length, Option, Some, refl, sym, ap, subst, ◌∙◌, append-nil, inl, inr}
 use Rattle.std.specs.Io.KnownBytes.{IsAtEnd}
 use Rattle.bh_spec.specs.declared.Refusal.TheVariants.{Dead, Limit, Ended, TooLong}
 use Rattle.bh_spec.specs.declared.Summary.{Summary}
@@ -8,7 +8,7 @@ use Rattle.bh_spec.specs.Reports.{summary}
 use Rattle.bh_spec.specs.Viable.{IsMessageText}
 use Rattle.bh_base.specs.Steps.{Step, Entry, taken, given, met, ReadFacts, WriteFacts, ReadLeaves, WriteLeaves, meanings}
 use Rattle.bh_model.specs.Ranges.{AreLimits}
-use Rattle.bh_stream.specs.Logs.{HasBody, AtEvery, GivesFront}
+use Rattle.bh_stream.specs.Logs.{HasBody, AtEvery}
 use Rattle.bh_stream.specs.Messages.{IsTextOf}
 use Rattle.bh_stream.specs.Points.{one_read}
 use Rattle.bh_stream.specs.Runs.{Streams}
@@ -65,7 +65,7 @@ right L to_head (end.Refused (Form form)) steps more none h = by_place h.1
   where
     by_place : IsFormless L to_head form steps → IsIntoAnswer L to_head (taken steps ++ more) (formless form)
     by_place (inl j) = inl (j.0, j.2 more)
-    by_place (inr e) = subst (λ (l : List ℕ). IsIntoAnswer L to_head l (formless form)) (sym (ap (λ (l : List ℕ). taken steps ++ l) (none e.0) ∙ append-nil (taken steps))) e.1
+    by_place (inr e) = subst (λ (l : List ℕ). IsIntoAnswer L to_head l (formless form)) (sym (ap (λ (l : List ℕ). taken steps ++ l) (none e.0) ∙ append-nil (taken steps))) (inr e.1)
 right L to_head end.ReadFault steps more none h = tt
 right L to_head end.WriteFault steps more none h = tt
 

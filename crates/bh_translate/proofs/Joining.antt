@@ -1,5 +1,5 @@
 -- The judgement of the decoder, item by item, is that of the moments of the items.
-use Rattle.std.proofs.Common.{◌≡◌, ◌⊎◌, ◌+◌, arith, ℕ, Bool, List, [], ◌∷◌, ◌++◌, flat_map, Option, Some, None, refl, sym, ap, ap₂, subst, ◌∙◌, append-nil, inl, inr}
+use Rattle.std.proofs.Common.{◌≡◌, ◌+◌, arith, ℕ, Bool, List, [], ◌∷◌, ◌++◌, flat_map, refl, sym, ap, ap₂, subst, ◌∙◌, append-nil}
 use Rattle.bh_spec.specs.declared.Omitted.{Omitted}
 use Rattle.bh_spec.specs.declared.Omitted.TheVariants.{Nothing, Trailers, Both}
 use Rattle.bh_spec.specs.Bounds.{Bounds}
@@ -13,7 +13,7 @@ use Rattle.h1_spec.specs.Http1Text.{Case, of_interim, of_head}
 use Rattle.h1_spec.specs.Moments.{announced, of_byte, of_trailers, of_end, alone, cases_at}
 use Rattle.h1_spec.specs.Http1.{start_of}
 use Rattle.h1_spec.proofs.Cases.{AreFree, none_free, free_append}
-use Rattle.h1_moments.specs.Seen.{Seen, interims_seen, head_seen, start_with, see, seen_behind, moments_of, moments_in}
+use Rattle.h1_moments.specs.Seen.{Seen, interims_seen, head_seen, start_with, seen_behind, moments_of, moments_in}
 use Rattle.h1_judge.specs.Courses.{Course, behind_item, behind, item_cases, AreFree as Free}
 
 -- ---- what is known of a body

@@ -1,5 +1,5 @@
 -- Where something completes a message, its ending is still to come.
-use Rattle.std.proofs.Common.{◌≡◌, ◌⊎◌, List, [], ◌∷◌, ◌++◌, sym, ◌∙◌, inl, inr}
+use Rattle.std.proofs.Common.{◌≡◌, List, [], ◌∷◌, ◌++◌, sym, ◌∙◌, inl, inr}
 use Rattle.bh_spec.specs.declared.Form.{Form}
 use Rattle.bh_spec.specs.declared.Form.TheVariants.{Known, Indeterminate}
 use Rattle.bh_spec.specs.declared.Kind.{Kind}
@@ -10,7 +10,7 @@ use Rattle.bh_spec.specs.Texts.{Text, mark}
 use Rattle.bh_spec.specs.Yields.{Yields}
 use Rattle.bh_spec.specs.Items.{Item}
 use Rattle.bh_push.specs.Decoders.{At, Rest, in_framing, in_control, in_status, before_interim, in_interim, before_header, in_header, behind_head, in_length, in_content, behind_content, in_trailers, in_padding}
-use Rattle.bh_push.specs.Completing.{AfterContent, TailRest, BodyRest, AfterRun, AfterStart, ResponseRest, RequestRest, AfterFraming}
+use Rattle.bh_push.specs.Completing.{AfterContent, TailRest, BodyRest, AfterRun, AfterFraming}
 
 -- no items of the kind are none
 abbrev HasItems : (List Item → Text → Type 0) → Type 0

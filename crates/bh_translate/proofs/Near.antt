@@ -1,8 +1,6 @@
 -- Where no rule holds with the items of a message, but of the length of its body, none else holds of the message.
 use Rattle.std.proofs.Common.{◌≡◌, ◌⊎◌, ◌+◌, arith, ℕ, Bool, true, false, not, cond, nat_eq, List, [], ◌∷◌, ◌++◌, length, map, flat_map, refl, sym, ap, ap₂, subst, ◌∙◌, inl, inr}
 use Rattle.std.proofs.lemmas.Bool.{eqb-true, not-false}
-use Rattle.bh_spec.specs.declared.NoForm.{NoForm}
-use Rattle.bh_spec.specs.declared.NoForm.TheVariants as no
 use Rattle.bh_spec.specs.declared.Omitted.{Omitted}
 use Rattle.bh_spec.specs.declared.Omitted.TheVariants.{Nothing, Trailers, Both}
 use Rattle.bh_spec.specs.Messages.{Field, Interim, Start, request, response, Message}
@@ -18,7 +16,7 @@ use Rattle.h1_spec.proofs.Agreeing.{head_parts, no_body_clean, bare_of}
 use Rattle.h1_spec.proofs.Cases.{AreFree, none_free}
 use Rattle.h1_spec.proofs.Kept.{lengths_kept}
 use Rattle.h1_judge.specs.Courses.{Course, start_course, behind_item, behind, item_cases, AreFree as Free}
-use Rattle.bh_translate.specs.Into.{IsOfLength, LeaveText, HasText}
+use Rattle.bh_translate.specs.Into.{LeaveText, HasText}
 
 -- ---- rules
 

@@ -1,6 +1,5 @@
 -- What was given at a point of a call rests on bytes that were judged.
 use Rattle.std.proofs.Common.{◌≡◌, ◌⊎◌, arith, ℕ, Bool, true, List, [], ◌∷◌, ◌++◌, length, Option, refl, sym, ap, subst, ◌∙◌, append_assoc, append-nil, inl, inr}
-use Rattle.bh_spec.specs.declared.Omitted.{Omitted}
 use Rattle.bh_spec.specs.Bounds.{Bounds, IsWithin}
 use Rattle.bh_spec.specs.Messages.{Message}
 use Rattle.bh_spec.specs.Texts.{Text, bytes_of}
@@ -10,7 +9,6 @@ use Rattle.bh_spec.specs.Items.{Item, ending, items}
 use Rattle.bh_spec.proofs.Marks.{bytes_of-append}
 use Rattle.bh_base.specs.Steps.{Step, taken, given, met}
 use Rattle.bh_model.specs.Ranges.{AreLimits}
-use Rattle.bh_push.specs.Decoders.{At}
 use Rattle.bh_stream.specs.Outputs.{Output, written}
 use Rattle.bh_stream.specs.Logs.{Begins}
 use Rattle.bh_stream.specs.Decoding.{Passing}
@@ -31,7 +29,7 @@ use Rattle.h1_judge.specs.Views.{JudgedView, Landed, Moved, rest, IsAtStart}
 use Rattle.h1_judge.specs.JudgedLaws.{cleaned-append, behind-append, judged_laws}
 use Rattle.h1_text.specs.Owed.{at_start, owed}
 use Rattle.h1_text.proofs.Comings.{one_ending}
-use Rattle.bh_translate.specs.Into.{LeaveText, HasText, RestsOn, RestsOnAll, GivesJudged}
+use Rattle.bh_translate.specs.Into.{LeaveText, HasText, RestsOn, GivesJudged}
 use Rattle.bh_translate.proofs.Near.{AreNear, free_near, near_on, near_back, near_text}
 use Rattle.bh_translate.proofs.GoingOn.{Completes, goes_on_behind, prompt_behind}
 use Rattle.bh_translate.proofs.Starting.{items_cleaned, clean_of, raw, knows_clean}

@@ -1,5 +1,5 @@
 -- What the decoder and the writer know at the start of a translation to HTTP/1.1.
-use Rattle.std.proofs.Common.{◌≡◌, ◌+◌, ◌-◌, arith, ℕ, Bool, List, [], ◌∷◌, ◌++◌, map, Some, refl, sym, ap, subst, ◌∙◌}
+use Rattle.std.proofs.Common.{◌≡◌, ℕ, Bool, List, [], ◌∷◌, ◌++◌, map, refl, sym, ap, ◌∙◌}
 use Rattle.bh_spec.specs.declared.Omitted.{Omitted}
 use Rattle.bh_spec.specs.declared.Omitted.TheVariants.{Nothing, Trailers, Both}
 use Rattle.bh_spec.specs.Bounds.{Bounds}
@@ -9,8 +9,6 @@ use Rattle.bh_spec.specs.Spelling.{Spells}
 use Rattle.bh_spec.specs.Items.{Item, interim_response, head, content_byte, of_request, of_response, start_items, tail_items, items}
 use Rattle.bh_spec.proofs.Whole.{one_reading}
 use Rattle.bh_model.specs.Ranges.{AreLimits}
-use Rattle.bh_push.specs.Pushes.{DecoderView}
-use Rattle.bh_stream.specs.Outputs.{written}
 use Rattle.bh_stream.specs.Formats.{Knows}
 use Rattle.bh_stream.specs.Messages.{Spelled, IsSpelled, KnowsMessages}
 use Rattle.bh_reading.specs.Readings as binary
@@ -19,7 +17,7 @@ use Rattle.h1_spec.specs.Http1Text.{text_of, http1}
 use Rattle.h1_spec.specs.Cleaning.{hops, clean, clean_trailers, clean_interim, clean_message, says_host}
 use Rattle.h1_spec.proofs.Members.{spelled_leaves}
 use Rattle.h1_spec.specs.Laws.{LeavesOut}
-use Rattle.h1_judge.specs.Courses.{named_behind, cleaned_items, Course}
+use Rattle.h1_judge.specs.Courses.{cleaned_items}
 use Rattle.h1_judge.specs.Views.{JudgedView, rest, room, IsAtStart}
 use Rattle.h1_text.specs.Owed.{at_start, owed}
 use Rattle.h1_text.proofs.Owes.{owes_bytes}

@@ -1,15 +1,15 @@
 -- There and back.
-use Rattle.std.proofs.Common.{◌≡◌, ℕ, Bool, List, length, refl, sym, ap, subst, ◌∙◌}
+use Rattle.std.proofs.Common.{◌≡◌, ℕ, Bool, List, length, sym, ap, subst, ◌∙◌}
 use Rattle.bh_spec.specs.declared.Omitted.{Omitted}
 use Rattle.bh_spec.specs.Bounds.{Bounds, IsWithin}
 use Rattle.bh_spec.specs.Canonical.{canon}
 use Rattle.bh_spec.specs.Messages.{Message}
 use Rattle.bh_spec.specs.declared.Summary.{Summary}
-use Rattle.std.specs.Prelude.{Option, Some, []}
+use Rattle.std.specs.Prelude.{Option}
 use Rattle.h1_spec.specs.declared.Scheme1.{Scheme1}
 use Rattle.h1_spec.specs.Cleaning.{clean_message}
 use Rattle.h1_spec.specs.Http1Text.{http1}
-use Rattle.h1_spec.specs.Translation.{IntoAnswer, formed, read, IsIntoAnswer, IsFromAnswer}
+use Rattle.h1_spec.specs.Translation.{formed, read, IsFromAnswer}
 use Rattle.h1_spec.proofs.Answering.{one_into}
 use Rattle.h1_spec.proofs.Valid.{into_then_from, into_then_read}
 use Rattle.bh_translate.specs.Laws.{IsSentThere, IsSent, ThereAndBack, BackIsDone}

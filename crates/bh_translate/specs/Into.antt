@@ -19,7 +19,7 @@ use Rattle.bh_stream.specs.Calls.{PortCall}
 use Rattle.bh_stream.specs.declared.streaming.End.{End}
 use Rattle.bh_stream.specs.declared.streaming.End.TheVariants as end
 use Rattle.h1_spec.specs.Http1Text.{Case, cases_of, http1}
-use Rattle.h1_spec.specs.Judging.{NoneIsJudged, IsJudgedAt}
+use Rattle.h1_spec.specs.Judging.{NoneIsJudged, IsJudgedAt, IsUnjudged, end_says}
 use Rattle.h1_spec.specs.Marks.{IsSomeMarked}
 use Rattle.h1_spec.specs.Translation.{IntoAnswer, formed, dead, formless, IsIntoAnswer}
 use Rattle.h1_judge.specs.declared.judged.IntoWhy.{IntoWhy}
@@ -48,11 +48,16 @@ IsRefusedBinary L to_head (TooLong at) steps = ReadsTo at steps
     × ((more : List ℕ) → IsIntoAnswer L to_head (taken steps ++ more) (dead (TooLong at)))
 IsRefusedBinary L to_head (Ended at part) steps = (met steps ≡ true) × IsIntoAnswer L to_head (taken steps) (dead (Ended at part))
 
+-- The bytes are a message none of whose bytes is judged, and its end is.
+abbrev pub IsJudgedAtEnd : Bounds → Bool → List ℕ → NoForm → Type 0
+IsJudgedAtEnd L to_head bytes form = (m : Message) × (omitted : Omitted) × (padding : ℕ) × IsUnjudged L to_head bytes m omitted padding
+    × (end_says to_head m omitted ≡ Some form)
+
 -- A byte is judged, whatever follows it, and stops the call in the read that shows it; or the end is.
 abbrev pub IsFormless : Bounds → Bool → NoForm → List Step → Type 0
 IsFormless L to_head form steps =
     ((at : ℕ) × ReadsTo at steps × ((more : List ℕ) → IsJudgedAt L to_head (taken steps ++ more) at form))
-    ⊎ ((met steps ≡ true) × IsIntoAnswer L to_head (taken steps) (formless form))
+    ⊎ ((met steps ≡ true) × IsJudgedAtEnd L to_head (taken steps) form)
 
 -- how a call ended; behind a failed call there is none
 abbrev pub IntoEnds : Bounds → Bool → End Summary IntoWhy → List Step → Type 0

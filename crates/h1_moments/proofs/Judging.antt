@@ -1,5 +1,5 @@
 -- What the moments of the items say of the answers of the translator.
-use Rattle.std.proofs.Common.{◌≡◌, ◌<◌, ◌+◌, ◌-◌, ◌⊎◌, ℕ, Bool, List, [], ◌∷◌, ◌++◌, length, flat_map, take, drop, Option, Some, None, refl, sym, ap, subst, ◌∙◌, inl, inr, append_assoc, append-nil, length-append, take-append-drop, length-drop, arith}
+use Rattle.std.proofs.Common.{◌≡◌, ◌<◌, ◌+◌, ◌-◌, ◌⊎◌, ℕ, Bool, List, [], ◌∷◌, ◌++◌, length, flat_map, take, drop, Some, None, refl, sym, ap, subst, ◌∙◌, inl, inr, append_assoc, append-nil, length-append, take-append-drop, length-drop, arith}
 use Rattle.std.proofs.Math.Seq.{take-append_seam, take-length}
 use Rattle.std.specs.List.{Contains}
 use Rattle.std.proofs.lemmas.List.{take-append-le, length-take-le}
@@ -31,7 +31,7 @@ use Rattle.h1_spec.specs.Judging.{IsOpening, ComesAt, IsJudged, NoneIsJudged, Is
 use Rattle.h1_spec.specs.Translation.{dead, IsIntoAnswer}
 use Rattle.h1_spec.proofs.Cases.{AreFree as AllFree, free_none, none_free, each_free}
 use Rattle.h1_moments.specs.Seen.{Seen, interims_seen, head_seen, nothing_seen, start_with, seen_behind, moments_of, moments_in}
-use Rattle.h1_moments.specs.Laws.{AreFree, form_with, NoneIsJudgedYet, JudgedThere, RefusedWhereFree, MissedWhereFree, EndsAs, FinishedWhereFree}
+use Rattle.h1_moments.specs.Laws.{AreFree, form_with, NoneIsJudgedYet, JudgedThere, RefusedWhereFree, MissedWhereFree, FinishedWhereFree}
 use Rattle.h1_moments.proofs.Seeing.{moments-append, tail_count}
 use Rattle.h1_moments.proofs.Continuing.{start_count}
 use Rattle.h1_moments.proofs.Placing.{seen_late}
@@ -237,8 +237,4 @@ finished_where_free L to_head bytes i v o z h prompt within rest =
     let says : form_with to_head i (ending o z) ≡ end_says to_head m o = ap (λ (s : Seen). first_of (flat_map (cases_at to_head) (moments_of s (ending o z)))) seen ∙ end_form to_head m o z in
     let unjudged : IsUnjudged L to_head bytes m o z =
     record { message = subst (λ (x : List ℕ). IsAnswer L x (whole m o z)) b.bytes_are done.2; none = none_at_end L to_head bytes i v.at h.comes prompt h.free } in
-    (m, same, by_form m unjudged (form_with to_head i (ending o z)) says)
-  where
-    by_form : (m : Message) → IsUnjudged L to_head bytes m o z → (form : Option NoForm) → form ≡ end_says to_head m o → EndsAs L to_head bytes m o z form
-    by_form m u None e = (u, sym e)
-    by_form m u (Some form) e = inr (m, o, z, u, sym e)
+    (m, same, (unjudged, sym says))

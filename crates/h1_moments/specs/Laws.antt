@@ -13,8 +13,8 @@ use Rattle.bh_push.specs.Standing.{Comes, IsRight, IsPrompt}
 use Rattle.bh_push.specs.Pushes.{DecoderView, RefusesFirst, MissesAs}
 use Rattle.bh_stream.specs.Decoding.{content_items}
 use Rattle.h1_spec.specs.Moments.{Moment, cases_at, first_of}
-use Rattle.h1_spec.specs.Judging.{ComesAt, NoneIsJudged, IsJudgedAt}
-use Rattle.h1_spec.specs.Translation.{formed, dead, formless, IsIntoAnswer}
+use Rattle.h1_spec.specs.Judging.{ComesAt, NoneIsJudged, IsJudgedAt, IsUnjudged, end_says}
+use Rattle.h1_spec.specs.Translation.{dead, IsIntoAnswer}
 use Rattle.h1_moments.specs.Seen.{interims_seen, head_seen, nothing_seen, seen_behind, moments_of, moments_in}
 
 -- ---- no moment comes unseen
@@ -98,10 +98,9 @@ abbrev pub MissedWhereFree : Type 0
 MissedWhereFree = (L : Bounds) (to_head : Bool) (bytes : List ℕ) (i : List Item) (v : DecoderView) (r : Refusal)
     → HasRead L to_head bytes i v → IsPrompt L v.at → MissesAs v r → IsIntoAnswer L to_head bytes (dead r)
 
--- A message that ends there has a text, or a rule holds at its end.
+-- A message that ends there is judged at none of its bytes, and this is what its end says.
 abbrev pub EndsAs : Bounds → Bool → List ℕ → Message → Omitted → ℕ → Option NoForm → Type 0
-EndsAs L to_head bytes m omitted padding None = IsIntoAnswer L to_head bytes (formed m omitted padding)
-EndsAs L to_head bytes m omitted padding (Some form) = IsIntoAnswer L to_head bytes (formless form)
+EndsAs L to_head bytes m omitted padding form = IsUnjudged L to_head bytes m omitted padding × (end_says to_head m omitted ≡ form)
 
 abbrev pub FinishedWhereFree : Type 0
 FinishedWhereFree = (L : Bounds) (to_head : Bool) (bytes : List ℕ) (i : List Item) (v : DecoderView) (omitted : Omitted) (padding : ℕ)

@@ -1,4 +1,4 @@
-use Rattle.std.proofs.Common.{rules, ◌≡◌, arith, ap, ◌∙◌, length, min, ℕ}
+use Rattle.std.proofs.Common.{rules, arith}
 use Rattle.bh_cmd.specs.Making.{unmade}
 use Rattle.bh_cmd.proofs.Refilling.{handed_out}
 use Rattle.bh_cmd.proofs.making.Maker.hand_out.Goals as goal

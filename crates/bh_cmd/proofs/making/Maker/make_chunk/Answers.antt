@@ -1,5 +1,4 @@
-use Rattle.std.proofs.Common.{◌≡◌, ◌∙◌, ◌++◌, take, drop, ap, sym, arith, List, ℕ}
-use Rattle.bh_spec.specs.Integers.{int}
+use Rattle.std.proofs.Common.{◌∙◌, ◌++◌, take, ap, sym, arith, List, ℕ}
 use Rattle.bh_cmd.specs.Trials.{content_from}
 use Rattle.bh_cmd.specs.Making.{unmade}
 use Rattle.bh_cmd.proofs.Refilling.{none_ready, chunk_made}
